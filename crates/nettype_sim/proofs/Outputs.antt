@@ -1,0 +1,228 @@
+-- Writes one after another, and the texts of a run that ended or was cut off.
+use Rattle.std.proofs.Common.{◌≡◌, inl, inr, ◌⊎◌, ℕ, zero, suc, ◌+◌, ◌<◌, ◌≤◌, Bool, if◌then◌else◌, List, [], ◌∷◌, ◌++◌, Option, Some, None, IfSome, IfErr, Result, Ok, Err, length, take, refl, sym, ◌∙◌, ap, subst, arith, append_assoc, append-nil, length-append}
+use Rattle.std.proofs.Math.Seq.{take-append-add}
+use Rattle.std.proofs.lemmas.List.{take-append-le}
+use Rattle.std.proofs.lemmas.List.Elements.{All-nil, All-cons, All-head, All-tail}
+use Rattle.std.proofs.lemmas.Grind.{flat_map-append}
+use Rattle.std.specs.List.{All}
+use Rattle.nt_io.specs.Sinks.{SinkMeaning, Appends, Gained}
+use Rattle.nt_io.proofs.Gains.{gained_then, gained_nothing, appends_nothing}
+use Rattle.nt_design.specs.declared.design.Design.{Design}
+use Rattle.nt_machine.specs.State.{MachineState, start_state}
+use Rattle.nt_machine.specs.Execution.{Execution, IsComplete, run, expansion, copies, ended, Observation, observation_of}
+use Rattle.nt_machine.specs.Texts.{entry_line, entry_lines, witness_head, witness_end, witness_text, slot_text, end_text, trace_text}
+use Rattle.nt_machine.specs.declared.event.Entry.{Entry}
+use Rattle.nettype_sim.specs.Writes.{IsFront, GainsFront, GainsPart, Opened, Filed}
+use Rattle.nettype_sim.specs.Runs.{CutOff, IsLastPart, IsCutWitness, RunsWhole, RunsInPart}
+use Rattle.nettype_sim.specs.Outcomes.{RanDesign, StoppedDesign}
+use Rattle.nettype_sim.proofs.Steps.{run_front}
+
+pub if_err_any : {T E P : Type 0} (r : Result T E) → P → IfErr r (λ _. P)
+if_err_any (Ok x) p = tt
+if_err_any (Err e) p = p
+
+gained_same : (a b : SinkMeaning) (x y : List ℕ) → x ≡ y → Gained a b x → Gained a b y
+gained_same a b x y same gained = subst (λ (l : List ℕ). Gained a b l) same gained
+
+-- a front of a text, with more behind it
+part_before : (a b : SinkMeaning) (x y : List ℕ) → GainsFront a b x → GainsPart a b (x ++ y)
+part_before a b x y (n, below, gained) =
+    (n, gained_same a b (take n x) (take n (x ++ y)) (sym (take-append-le n x y (omega (arith, below)))) gained)
+
+-- a text, and a front of what stands behind it
+part_behind : (a b c : SinkMeaning) (x y : List ℕ) → Gained a b x → GainsFront b c y → GainsPart a c (x ++ y)
+part_behind a b c x y first (n, below, gained) =
+    (length x + n, gained_same a c (x ++ take n y) (take (length x + n) (x ++ y)) (sym (take-append-add x y n)) (gained_then first gained))
+
+-- the trace of one slot
+trace_of_slot : (d : Design) (seen : Observation) → slot_text d None seen ++ end_text 0 ≡ trace_text d 0 (seen ∷ [])
+trace_of_slot d seen = ap (λ (l : List ℕ). l ++ end_text 0) (sym (append-nil (slot_text d None seen)))
+
+pub trace_written : (d : Design) (seen : Observation) (a b c : SinkMeaning) (text last : List ℕ) → text ≡ slot_text d None seen → last ≡ end_text 0 → Gained a b text → Gained b c last → Gained a c (trace_text d 0 (seen ∷ []))
+trace_written d seen a b c text last is ends first second =
+    gained_same a c (slot_text d None seen ++ end_text 0) (trace_text d 0 (seen ∷ [])) (trace_of_slot d seen) (gained_then (gained_same a b text (slot_text d None seen) is first) (gained_same b c last (end_text 0) ends second))
+
+pub trace_cut_in_slot : (d : Design) (seen : Observation) (a b : SinkMeaning) (text : List ℕ) → text ≡ slot_text d None seen → GainsFront a b text → GainsPart a b (trace_text d 0 (seen ∷ []))
+trace_cut_in_slot d seen a b text is front =
+    subst (λ (l : List ℕ). GainsPart a b l) (ap (λ (l : List ℕ). l ++ end_text 0) is ∙ trace_of_slot d seen) (part_before a b text (end_text 0) front)
+
+pub trace_cut_in_end : (d : Design) (seen : Observation) (a b c : SinkMeaning) (text last : List ℕ) → text ≡ slot_text d None seen → last ≡ end_text 0 → Gained a b text → GainsFront b c last → GainsPart a c (trace_text d 0 (seen ∷ []))
+trace_cut_in_end d seen a b c text last is ends first front =
+    subst (λ (l : List ℕ). GainsPart a c l) ((λ i. is i ++ ends i) ∙ trace_of_slot d seen) (part_behind a b c text last first front)
+
+-- a front of the lines of entries: the lines of the first of them, and a last part
+record CutLines (entries : List Entry) (text : List ℕ) : Type 0 where
+  whole : List Entry
+  rest : List Entry
+  part : List ℕ
+  entries_are : entries ≡ whole ++ rest
+  last : IsLastPart part
+  text_is : text ≡ entry_lines whole ++ part
+
+no_part : IsLastPart []
+no_part = inr (0, omega arith, refl)
+
+lt_or_more : (k n : ℕ) → (k < n) ⊎ ((m : ℕ) × (k ≡ n + m))
+lt_or_more k zero = inr (k, omega arith)
+lt_or_more zero (suc n) = inl (omega arith)
+lt_or_more (suc k) (suc n) = elim (lt_or_more k n) [
+  | inl below ↦ inl (omega (arith, below))
+  | inr past ↦ inr (past.0, omega (arith, past.1))
+]
+
+cut_lines : (entries : List Entry) (n : ℕ) → CutLines entries (take n (entry_lines entries))
+cut_lines [] zero = record { whole = []; rest = []; part = []; entries_are = refl; last = no_part; text_is = refl }
+cut_lines [] (suc n) = record { whole = []; rest = []; part = []; entries_are = refl; last = no_part; text_is = refl }
+cut_lines (e ∷ es) n = elim (lt_or_more n (length (entry_line e))) [
+  | inl below ↦ record {
+    whole = [];
+    rest = e ∷ es;
+    part = take n (entry_line e);
+    entries_are = refl;
+    last = inl (e, (n, below, refl));
+    text_is = take-append-le n (entry_line e) (entry_lines es) (omega (arith, below));
+  }
+  | inr past ↦ further past.0 past.1 (cut_lines es past.0)
+]
+  where
+    further : (m : ℕ) → n ≡ length (entry_line e) + m → CutLines es (take m (entry_lines es)) → CutLines (e ∷ es) (take n (entry_lines (e ∷ es)))
+    further m is cut = record {
+      whole = e ∷ cut.whole;
+      rest = cut.rest;
+      part = cut.part;
+      entries_are = ap (λ (l : List Entry). e ∷ l) cut.entries_are;
+      last = cut.last;
+      text_is = ap (λ k. take k (entry_line e ++ entry_lines es)) is
+          ∙ take-append-add (entry_line e) (entry_lines es) m
+          ∙ ap (λ (l : List ℕ). entry_line e ++ l) cut.text_is
+          ∙ sym (append_assoc (entry_line e) (entry_lines cut.whole) cut.part);
+    }
+
+all_front : {X : Type 0} (P : X → Type 0) (xs ys : List X) → All P (xs ++ ys) → All P xs
+all_front P [] ys h = All-nil P
+all_front P (x ∷ xs) ys h =
+    All-cons P x xs (All-head P x (xs ++ ys) h) (all_front P xs ys (All-tail P x (xs ++ ys) h))
+
+-- the first entries of an execution are those of one
+execution_front : (until : ℕ) (d : Design) (xs ys : List Entry) (s : MachineState) → Execution until d (xs ++ ys) s → (m : MachineState) × Execution until d xs m
+execution_front until d xs ys s execution =
+    let runs = subst (λ (es : List _). run until d es (start_state d) ≡ Some s) (flat_map-append copies xs ys) execution.runs in
+    let front = run_front until d (expansion xs) (expansion ys) (start_state d) s runs in
+    (front.0, record { counted = all_front (λ (e : Entry). 1 ≤ e.count) xs ys execution.counted; runs = front.1 })
+
+no_entries : (until : ℕ) (d : Design) → Execution until d [] (start_state d)
+no_entries until d = record { counted = All-nil (λ (e : Entry). 1 ≤ e.count); runs = refl }
+
+-- a run that is cut off before its trace begins
+untraced : (until : ℕ) (d : Design) (entries : List Entry) (reached : MachineState) (file : List ℕ) → Execution until d entries reached → IsCutWitness entries file → CutOff until d file []
+untraced until d entries reached file execution witness_is = record {
+  entries = entries;
+  reached = reached;
+  execution = execution;
+  witness_is = witness_is;
+  trace_is = (0, refl);
+  ended_only = inl refl;
+}
+
+pub cut_in_head : (d : Design) (t a b : SinkMeaning) → GainsFront a b witness_head → RunsInPart 0 d t t a b
+cut_in_head d t a b (n, below, gained) =
+    (take n witness_head, [], untraced 0 d [] (start_state d) (take n witness_head) (no_entries 0 d) (inl (refl, (n, below, refl))), gained, gained_nothing)
+
+pub cut_behind_head : (d : Design) (t a b : SinkMeaning) → Gained a b witness_head → RunsInPart 0 d t t a b
+cut_behind_head d t a b gained =
+    (witness_head, [], untraced 0 d [] (start_state d) witness_head (no_entries 0 d) (inr ([], no_part, sym (append-nil witness_head))), gained, gained_nothing)
+
+pub cut_in_entries : (d : Design) (entries : List Entry) (s : MachineState) (t a b c : SinkMeaning) → Execution 0 d entries s → Gained a b witness_head → GainsPart b c (entry_lines entries) → RunsInPart 0 d t t a c
+cut_in_entries d entries s t a b c execution head (n, gained) =
+    let cut = cut_lines entries n in
+    let front = execution_front 0 d cut.whole cut.rest s (subst (λ (es : List Entry). Execution 0 d es s) cut.entries_are execution) in
+    (witness_head ++ take n (entry_lines entries), [], untraced 0 d cut.whole front.0 _ front.1 (inr (cut.part, cut.last, ap (λ (l : List ℕ). witness_head ++ l) cut.text_is)), gained_then head gained, gained_nothing)
+
+ended_there : (until : ℕ) (s : MachineState) → IsComplete until s → observation_of s ∷ [] ≡ ended until s
+ended_there until s complete =
+    ap (λ (b : Bool). seen_unless b) (sym complete)
+  where
+    seen_unless : Bool → List Observation
+    seen_unless b = if b then [] else observation_of s ∷ []
+
+-- a run that is cut off behind its entries
+traced : (d : Design) (entries : List Entry) (s : MachineState) (part seen : List ℕ) → Execution 0 d entries s → IsComplete 0 s → IsLastPart part → IsFront seen (trace_text d 0 (observation_of s ∷ [])) → CutOff 0 d (witness_head ++ (entry_lines entries ++ part)) seen
+traced d entries s part seen execution complete last front = record {
+  entries = entries;
+  reached = s;
+  execution = execution;
+  witness_is = inr (part, last, refl);
+  trace_is = subst (λ (slots : List Observation). IsFront seen (trace_text d 0 slots)) (ended_there 0 s complete) front;
+  ended_only = inr complete;
+}
+
+pub cut_in_trace : (d : Design) (entries : List Entry) (s : MachineState) (t u a b c : SinkMeaning) → Execution 0 d entries s → IsComplete 0 s → Gained a b witness_head → Gained b c (entry_lines entries) → GainsPart t u (trace_text d 0 (observation_of s ∷ [])) → RunsInPart 0 d t u a c
+cut_in_trace d entries s t u a b c execution complete head lines (n, seen) =
+    (_, _, traced d entries s [] (take n (trace_text d 0 (observation_of s ∷ []))) execution complete no_part (n, refl), gained_then head (gained_then lines gained_nothing), seen)
+
+pub cut_in_end : (d : Design) (entries : List Entry) (s : MachineState) (t u a b c e : SinkMeaning) → Execution 0 d entries s → IsComplete 0 s → Gained a b witness_head → Gained b c (entry_lines entries) → Gained t u (trace_text d 0 (observation_of s ∷ [])) → GainsFront c e witness_end → RunsInPart 0 d t u a e
+cut_in_end d entries s t u a b c e execution complete head lines seen (n, below, gained) =
+    (_, _, traced d entries s (take n witness_end) (trace_text d 0 (observation_of s ∷ [])) execution complete (inr (n, below, refl)) (length (trace_text d 0 (observation_of s ∷ [])), sym (take_whole (trace_text d 0 (observation_of s ∷ [])))), gained_then head (gained_then lines gained), seen)
+  where
+    take_whole : (l : List ℕ) → take (length l) l ≡ l
+    take_whole [] = refl
+    take_whole (x ∷ xs) = ap (λ (l : List ℕ). x ∷ l) (take_whole xs)
+
+pub ran_whole : (d : Design) (entries : List Entry) (s : MachineState) (t u a b c e : SinkMeaning) → Execution 0 d entries s → IsComplete 0 s → Gained a b witness_head → Gained b c (entry_lines entries) → Gained t u (trace_text d 0 (observation_of s ∷ [])) → Gained c e witness_end → RunsWhole 0 d t u a e
+ran_whole d entries s t u a b c e execution complete head lines seen gained = (
+  witness_text entries,
+  trace_text d 0 (observation_of s ∷ []),
+  record {
+    entries = entries;
+    end_state = s;
+    execution = execution;
+    complete = complete;
+    witness_is = refl;
+    trace_is = ap (trace_text d 0) (ended_there 0 s complete);
+  },
+  gained_then head (gained_then lines gained),
+  seen,
+)
+
+-- a sink that was opened and then gained these bytes
+filed : (a b c : SinkMeaning) (path bytes : List ℕ) → Opened a b path → Gained b c bytes → Filed a c path bytes
+filed a b c path bytes opened gained = record {
+  named = subst (λ (o : Option (List ℕ)). IfSome o (λ p. p ≡ path)) (sym gained.path) opened.named;
+  told = subst (λ (o : Option (List ℕ)). IfSome a.path (λ p. o ≡ Some path)) (sym gained.path) opened.told;
+  written = subst (λ (o : Option (List ℕ)). Appends o c.written bytes) opened.written gained.written;
+}
+
+pub ran_design : (d : Design) (path : List ℕ) (t u a b c : SinkMeaning) → Opened a b path → RunsWhole 0 d t u b c → RanDesign d path t u a c
+ran_design d path t u a b c opened (file, seen, witnessed, gained, traced) =
+    (file, seen, witnessed, filed a b c path file opened gained, traced)
+
+pub stopped_design : (d : Design) (path : List ℕ) (t u a b c : SinkMeaning) → Opened a b path → RunsInPart 0 d t u b c → StoppedDesign d t u a c
+stopped_design d path t u a b c opened (file, seen, cut, gained, traced) =
+    (file, seen, cut, subst (λ (o : Option (List ℕ)). Appends o c.written file) opened.written gained.written, traced)
+
+pub not_opened : (d : Design) (t a b : SinkMeaning) → b.written ≡ a.written → StoppedDesign d t t a b
+not_opened d t a b kept =
+    ([], [], untraced 0 d [] (start_state d) [] (no_entries 0 d) (inl (refl, (0, omega arith, refl))), subst (λ (o : Option (List ℕ)). Appends a.written o []) (sym kept) (appends_nothing a.written), gained_nothing)
+
+-- a front of a text is one of a longer text
+front_before : (a b : SinkMeaning) (x y : List ℕ) → GainsFront a b x → GainsFront a b (x ++ y)
+front_before a b x y (n, below, gained) =
+    (n, omega (arith, below, length-append x y), gained_same a b (take n x) (take n (x ++ y)) (sym (take-append-le n x y (omega (arith, below)))) gained)
+
+front_behind : (a b c : SinkMeaning) (x y : List ℕ) → Gained a b x → GainsFront b c y → GainsFront a c (x ++ y)
+front_behind a b c x y first (n, below, gained) =
+    (length x + n, omega (arith, below, length-append x y), gained_same a c (x ++ take n y) (take (length x + n) (x ++ y)) (sym (take-append-add x y n)) (gained_then first gained))
+
+-- three writes
+pub three_cut_first : (a b : SinkMeaning) (x y z : List ℕ) → GainsFront a b x → GainsFront a b (x ++ (y ++ z))
+three_cut_first a b x y z front = front_before a b x (y ++ z) front
+
+pub three_cut_second : (a b c : SinkMeaning) (x y z : List ℕ) → Gained a b x → GainsFront b c y → GainsFront a c (x ++ (y ++ z))
+three_cut_second a b c x y z first front = front_behind a b c x (y ++ z) first (front_before b c y z front)
+
+pub three_cut_third : (a b c d : SinkMeaning) (x y z : List ℕ) → Gained a b x → Gained b c y → GainsFront c d z → GainsFront a d (x ++ (y ++ z))
+three_cut_third a b c d x y z first second front =
+    front_behind a b d x (y ++ z) first (front_behind b c d y z second front)
+
+pub three_written : (a b c d : SinkMeaning) (x y z : List ℕ) → Gained a b x → Gained b c y → Gained c d z → Gained a d (x ++ (y ++ z))
+three_written a b c d x y z first second third = gained_then first (gained_then second third)

@@ -1,0 +1,107 @@
+// The texts of entries and of a slot.
+ghost use Rattle.std.specs.Prelude.{◌≡◌, ◌++◌, ◌∷◌, [], ◌<◌, OnOk, IfOk, length, None, decimal, codes};
+ghost use Rattle.nt_design.specs.WellFormed.{IsDesign};
+ghost use Rattle.nt_machine.specs.State.{IsStateOf};
+ghost use Rattle.nt_machine.specs.Execution.{observation_of};
+ghost use Rattle.nt_machine.specs.Texts.{order_text, event_line, entry_lines, net_line, net_lines, slot_text, end_text};
+
+use nt_design::{Design, Net};
+use nt_machine::{Entry, Event, State};
+use nt_value::{Text, Value, print};
+use std::alloc::{AllocError, Global};
+
+fn print_order(order: &[u32], out: &mut Text) -> Result<(), AllocError>
+    ensures { OnOk result (out.new ≡ out.old ++ order_text order.now) }
+{
+    for slot in order {
+        out.push(b' ')?;
+        out.push_number(u64::from(*slot))?;
+    }
+    Ok(())
+}
+
+fn print_evaluation(assign: u32, count: u64, out: &mut Text) -> Result<(), AllocError>
+    ensures { OnOk result (out.new ≡ out.old ++ (codes "a " ++ (decimal assign ++ (32 ∷ (decimal count ++ (10 ∷ [])))))) }
+{
+    out.push_bytes(b"a ")?;
+    out.push_number(u64::from(assign))?;
+    out.push(b' ')?;
+    out.push_number(count)?;
+    out.push(b'\n')?;
+    Ok(())
+}
+
+fn print_resolution(net: u32, count: u64, order: &[u32], out: &mut Text) -> Result<(), AllocError>
+    ensures { OnOk result (out.new ≡ out.old
+        ++ (codes "r " ++ (decimal net ++ (32 ∷ (decimal count ++ (order_text order.now ++ (10 ∷ []))))))) }
+{
+    out.push_bytes(b"r ")?;
+    out.push_number(u64::from(net))?;
+    out.push(b' ')?;
+    out.push_number(count)?;
+    print_order(order, out)?;
+    out.push(b'\n')?;
+    Ok(())
+}
+
+fn print_event(event: &Event, count: u64, out: &mut Text) -> Result<(), AllocError>
+    ensures { OnOk result (out.new ≡ out.old ++ event_line event.now count) }
+{
+    match event {
+        Event::Assign { assign } => print_evaluation(*assign, count, out),
+        Event::Resolve { net, order } => print_resolution(*net, count, order.items(), out),
+    }
+}
+
+/// Adds a line for each entry.
+pub fn print_entries(entries: &[Entry], out: &mut Text) -> Result<(), AllocError>
+    ensures { OnOk result (out.new ≡ out.old ++ entry_lines entries.now) }
+{
+    for entry in entries {
+        print_event(&entry.event, entry.count, out)?;
+    }
+    Ok(())
+}
+
+fn print_net(net: &Net, value: &Value, out: &mut Text) -> Result<(), AllocError>
+    ensures { OnOk result (out.new ≡ out.old ++ net_line net.now value.now) }
+{
+    out.push_bytes(net.name.items())?;
+    out.push_bytes(b" = ")?;
+    print(value, out)?;
+    out.push(b'\n')?;
+    Ok(())
+}
+
+fn print_nets(design: &Design, state: &State, out: &mut Text) -> Result<(), AllocError>
+    requires design { IsDesign design.now }
+    requires state { IsStateOf design.now state.now }
+    ensures { OnOk result (out.new ≡ out.old ++ net_lines design.now.nets state.now.nets) }
+{
+    for (index, net) in design.nets.as_slice().iter().enumerate() {
+        print_net(net, state.net(index as u32), out)?;
+    }
+    Ok(())
+}
+
+/// Adds the first slot, with all nets.
+pub fn print_slot(design: &Design, state: &State, out: &mut Text) -> Result<(), AllocError>
+    requires design { IsDesign design.now }
+    requires state { IsStateOf design.now state.now }
+    ensures { OnOk result (out.new ≡ out.old ++ slot_text design.now None (observation_of state.now)) }
+{
+    out.push(b'#')?;
+    out.push_number(state.time())?;
+    out.push(b'\n')?;
+    print_nets(design, state, out)
+}
+
+/// Adds the end of a run to this time limit.
+pub fn print_end(until: u64, out: &mut Text) -> Result<(), AllocError>
+    ensures { OnOk result (out.new ≡ out.old ++ end_text until) }
+{
+    out.push_bytes(b"end ")?;
+    out.push_number(until)?;
+    out.push(b'\n')?;
+    Ok(())
+}

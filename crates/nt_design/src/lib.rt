@@ -1,0 +1,9 @@
+//! The elaborated design: nets with their slots, the continuous assignments that drive them, and the values of typed
+//! trees.
+#![tactic(auto)]
+
+mod design;
+mod tree;
+
+pub use design::{Assign, Design, Net, NetKind, Target};
+pub use tree::{Env, Stop, Tree, meaning};

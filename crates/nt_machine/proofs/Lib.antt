@@ -1,0 +1,6 @@
+pub mod Again
+pub mod Counts
+pub mod Moves
+pub mod Orders
+pub mod Sames
+pub mod Steps

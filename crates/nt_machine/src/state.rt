@@ -1,0 +1,173 @@
+// The state of a run, and its moves.
+ghost use Rattle.std.specs.Prelude.{◌≡◌, ◌<◌, ◌≤◌, ℕ, Some, None, length, map, slice_get, IfOk, replicate, nat_lt};
+ghost use Rattle.std.specs.List.{list_any};
+ghost use Rattle.nt_value.specs.Values.{default_value};
+ghost use Rattle.nt_design.specs.WellFormed.{IsDesign, net_shapes, net_of};
+ghost use Rattle.nt_machine.specs.State.{MachineState, start_state, slot_shapes, net_shape, copies_of, count_at, IsStateOf};
+ghost use Rattle.nt_machine.specs.Execution.{is_active, settle, move, MovedBy};
+
+use crate::Event;
+use nt_design::{Design, Env, Net, Target};
+use nt_value::{Value, default_of};
+use sqlite_items::Items;
+use std::alloc::{AllocError, Global};
+use std::marker::Model;
+
+/// What a call of `advance` did.
+#[derive(Clone, Copy, Debug, PartialEq, Eq)]
+pub enum Moved {
+    /// Nothing: an event is in Active.
+    Ready,
+    /// Nothing: no event is left up to the time limit.
+    End,
+}
+
+/// The state of a run of a design (4.3): the moment, the values of nets and slots, and the events in Active.
+#[derive(Debug, Drop)]
+pub struct State {
+    pub(crate) env: Env,
+    pub(crate) slots: Items<Value>,
+    pub(crate) assigns: Items<u64>,
+    pub(crate) resolves: Items<u64>,
+}
+
+impl Model for State {
+    ghost use Rattle.nt_machine.specs.State.{MachineState};
+
+    ghost Value = { MachineState };
+
+    ghost view = { λ s. record { time = s.env.time; nets = s.env.nets; slots = s.slots; assigns = s.assigns; resolves = s.resolves } };
+}
+
+pub(crate) fn count_of(counts: &[u64], at: u32) -> u64
+    ensures { result ≡ count_at counts.now at }
+{
+    match counts.get(at as usize) {
+        Some(count) => *count,
+        None => 0,
+    }
+}
+
+fn any_left(counts: &[u64]) -> bool
+    ensures { result ≡ list_any (nat_lt 0) counts.now }
+{
+    counts.iter().any(|count| *count > 0)
+}
+
+impl State {
+    /// The moment, in units of the design's time unit.
+    pub fn time(&self) -> u64
+        ensures { result ≡ self.now.time }
+    {
+        self.env.time
+    }
+
+    /// The value of a net.
+    pub fn net(&self, net: u32) -> &Value
+        requires { net < length self.now.nets }
+        ensures { slice_get self.now.nets net ≡ Some result.now }
+    {
+        &self.env.nets.as_slice()[net as usize]
+    }
+
+    /// How many copies of the event are in Active, whatever order a resolution names.
+    pub fn count(&self, event: &Event) -> u64
+        ensures { result ≡ copies_of self.now event.now }
+    {
+        match event {
+            Event::Assign { assign } => count_of(self.assigns.as_slice(), *assign),
+            Event::Resolve { net, .. } => count_of(self.resolves.as_slice(), *net),
+        }
+    }
+
+    #[tactic(auto, unfolding(crate::specs::Execution::is_active))]
+    fn is_active(&self) -> bool
+        ensures { result ≡ is_active self.now }
+    {
+        if any_left(self.assigns.as_slice()) {
+            return true;
+        }
+        any_left(self.resolves.as_slice())
+    }
+}
+
+fn default_nets(alloc: Global, design: &Design) -> Result<Items<Value>, AllocError>
+    ensures { IfOk result (λ nets. nets ≡ (start_state design.now).nets) }
+{
+    let mut nets = Items::new(alloc);
+    for net in design.nets.as_slice() {
+        nets.push(default_of(alloc, &net.shape)?)?;
+    }
+    Ok(nets)
+}
+
+pub(crate) fn net_at(design: &Design, net: u32) -> &Net
+    requires { net < length design.now.nets }
+    ensures { slice_get design.now.nets net ≡ Some result.now }
+{
+    &design.nets.as_slice()[net as usize]
+}
+
+pub(crate) fn target_net(target: Target) -> u32
+    ensures { result ≡ net_of target }
+{
+    match target {
+        Target::Slot { net, .. } => net,
+    }
+}
+
+fn default_slot(alloc: Global, design: &Design, net: u32) -> Result<Value, AllocError>
+    requires { net < length design.now.nets }
+    ensures { IfOk result (λ value. value ≡ default_value (net_shape design.now net)) }
+{
+    default_of(alloc, &net_at(design, net).shape)
+}
+
+fn default_slots(alloc: Global, design: &Design) -> Result<Items<Value>, AllocError>
+    requires { IsDesign design.now }
+    ensures { IfOk result (λ slots. slots ≡ (start_state design.now).slots) }
+{
+    let mut slots = Items::new(alloc);
+    for assign in design.assigns.as_slice() {
+        slots.push(default_slot(alloc, design, target_net(assign.target))?)?;
+    }
+    Ok(slots)
+}
+
+fn once_each(alloc: Global, count: usize) -> Result<Items<u64>, AllocError>
+    ensures { IfOk result (λ counts. counts ≡ replicate count 1) }
+{
+    Ok(Items::from_vec(vec![in alloc; 1; count]?))
+}
+
+/// The state before any event.
+///
+/// # Errors
+///
+/// Where memory is refused.
+pub fn start(alloc: Global, design: &Design) -> Result<State, AllocError>
+    requires { IsDesign design.now }
+    ensures { IfOk result (λ state. state ≡ start_state design.now) }
+{
+    Ok(State {
+        env: Env {
+            time: 0,
+            nets: default_nets(alloc, design)?,
+        },
+        slots: default_slots(alloc, design)?,
+        assigns: once_each(alloc, design.assigns.len())?,
+        resolves: once_each(alloc, design.nets.len())?,
+    })
+}
+
+/// Makes the one move of a state with nothing in Active, up to the time limit `until`. It takes no memory.
+pub fn advance(state: &mut State, _until: u64) -> Moved
+    ensures state { state.new ≡ settle _until state.old }
+    ensures moved { MovedBy _until state.old result }
+{
+    if state.is_active() {
+        Moved::Ready
+    } else {
+        Moved::End
+    }
+}

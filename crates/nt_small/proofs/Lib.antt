@@ -1,0 +1,9 @@
+pub mod Cutting
+pub mod Spacing
+pub mod Listing
+pub mod Decimal
+pub mod Positions
+pub mod Naming
+pub mod Gathering
+pub mod Designs
+pub mod Tokens

@@ -1,0 +1,4 @@
+pub mod Flips
+pub mod Prints
+pub mod Puts
+pub mod Words

@@ -1,0 +1,27 @@
+-- Values and their defaults.
+use Rattle.std.specs.Prelude.{ℕ, ◌/◌, ◌%◌, ◌==◌, zero, suc, if◌then◌else◌, List, [], ◌∷◌, replicate, map}
+use Rattle.nt_value.specs.Digits.{LeafValue}
+use Rattle.nt_value.specs.declared.digit.Digit.{Digit}
+use Rattle.nt_value.specs.declared.digit.Digit.TheVariants.{Zero, One, X}
+use Rattle.nt_value.specs.declared.leaf.Leaf.{Leaf}
+
+-- the lowest digits of a number in base 2, the least significant first
+abbrev pub binary : ℕ → ℕ → List Digit
+binary zero n = []
+binary (suc width) n = (if n % 2 == 1 then One else Zero) ∷ binary width (n / 2)
+
+-- a leaf with all digits 0
+abbrev pub zero_leaf : Leaf → LeafValue
+zero_leaf leaf = record { leaf = leaf; digits = replicate leaf.width Zero }
+
+-- x in a leaf of four states, and 0 in one of two (IEEE 1800-2017, 6.8, Table 6-7)
+abbrev pub default_leaf : Leaf → LeafValue
+default_leaf leaf = record { leaf = leaf; digits = replicate leaf.width (if leaf.four then X else Zero) }
+
+-- each leaf of a type at its default
+abbrev pub default_value : List Leaf → List LeafValue
+default_value shape = map default_leaf shape
+
+-- the leaves of a value
+abbrev pub shape_of : List LeafValue → List Leaf
+shape_of value = map (λ v. v.leaf) value
