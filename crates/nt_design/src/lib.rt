@@ -3,6 +3,8 @@
 #![tactic(auto)]
 
 mod design;
+#[cfg(test)]
+mod tests;
 mod tree;
 
 pub use design::{Assign, Design, Net, NetKind, Target};

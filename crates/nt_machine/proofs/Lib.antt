@@ -1,5 +1,6 @@
 pub mod Again
 pub mod Counts
+pub mod Examples
 pub mod Moves
 pub mod Orders
 pub mod Sames

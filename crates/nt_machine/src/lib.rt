@@ -7,6 +7,8 @@ mod laws;
 mod order;
 mod state;
 mod step;
+#[cfg(test)]
+mod tests;
 
 pub use event::{Entry, Event, Order};
 pub use laws::{again_changes_nothing, orders_are_permutations};

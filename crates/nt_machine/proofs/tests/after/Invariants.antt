@@ -1,0 +1,6 @@
+use Rattle.std.proofs.Common.{◌+◌}
+use Rattle.nt_machine.specs.State.{IsStateOf, AtMost}
+use Rattle.nt_machine.proofs.tests.after.Given as goal
+
+abbrev pub invariant-loop-event : goal.invariant-loop-event
+invariant-loop-event l = IsStateOf l.design l.state × AtMost (l.event-index + 1) l.state

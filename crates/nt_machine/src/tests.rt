@@ -1,0 +1,137 @@
+// A design of two nets, performed event by event.
+ghost use Rattle.std.specs.Prelude.{◌≡◌, ◌<◌, ◌≤◌, ◌+◌, ◌^◌, IfOk, OnOk, ℕ, [], ◌∷◌, length};
+ghost use Rattle.nt_value.specs.Values.{shape_of};
+ghost use Rattle.nt_design.specs.WellFormed.{IsDesign, shape_of_tree};
+ghost use Rattle.nt_machine.specs.State.{IsStateOf, AtMost};
+ghost use Rattle.nt_design.specs.declared.design.Target.TheVariants.{Slot};
+
+use crate::{Event, Order, State, allowed, apply, start};
+use nt_design::{Assign, Design, Net, NetKind, Target, Tree};
+use nt_value::{Base, Bits, Leaf, Name, Shape, Unit, Value, same};
+use sqlite_items::Items;
+use std::alloc::{AllocError, Global};
+use std::test::Fail;
+
+fn int(alloc: Global) -> Result<Shape, AllocError>
+    ensures { IfOk result (λ shape. shape ≡ Leaf.INT ∷ []) }
+{
+    Ok(Shape::new(vec![in alloc; Leaf::INT]?))
+}
+
+fn number(alloc: Global, number: u64) -> Result<Value, AllocError>
+    requires { number < 2 ^ 32 }
+    ensures { IfOk result (λ value. shape_of value ≡ Leaf.INT ∷ []) }
+{
+    Ok(Value::new(vec![in alloc; Bits::number(Leaf::INT, number)]?))
+}
+
+fn joined(alloc: Global, driven: Net, floating: Net, assign: Assign) -> Result<Design, AllocError>
+    requires driver { driven.slots ≡ 0 ∷ [] }
+    requires free { floating.slots ≡ [] }
+    requires target { assign.target ≡ Slot 0 0 0 0 }
+    requires shape { shape_of_tree assign.right ≡ driven.shape }
+    ensures { IfOk result (λ design. IsDesign design) }
+{
+    Ok(Design {
+        nets: Items::from_vec(vec![in alloc; driven, floating]?),
+        assigns: Items::from_vec(vec![in alloc; assign]?),
+        unit: Unit {
+            ten: 0,
+            base: Base::Ns,
+        },
+    })
+}
+
+fn net(alloc: Global, name: &[u8], slots: Items<u32>) -> Result<Net, AllocError>
+    ensures { IfOk result (λ net. (net.slots ≡ slots) × (net.shape ≡ Leaf.INT ∷ [])) }
+{
+    Ok(Net {
+        name: Name::from_slice(alloc, name)?,
+        shape: int(alloc)?,
+        kind: NetKind::Unresolved,
+        slots,
+    })
+}
+
+fn driver(alloc: Global) -> Result<Assign, AllocError>
+    ensures target { IfOk result (λ assign. assign.target ≡ Slot 0 0 0 0) }
+    ensures shape { IfOk result (λ assign. shape_of_tree assign.right ≡ Leaf.INT ∷ []) }
+{
+    Ok(Assign {
+        target: Target::Slot {
+            net: 0,
+            slot: 0,
+            low: 0,
+            width: 0,
+        },
+        right: Tree::Const(number(alloc, 5)?),
+    })
+}
+
+// a net with the driver 5, and a net with none
+fn two_nets(alloc: Global) -> Result<Design, AllocError>
+    ensures { IfOk result (λ design. IsDesign design) }
+{
+    let driven = net(alloc, b"driven", Items::from_vec(vec![in alloc; 0]?))?;
+    let floating = net(alloc, b"floating", Items::new(alloc))?;
+    let assign = driver(alloc)?;
+    joined(alloc, driven, floating, assign)
+}
+
+fn order(alloc: Global, slots: &[u32]) -> Result<Order, AllocError> {
+    Ok(Order::new(Vec::from_slice(alloc, slots)?))
+}
+
+// Performs the event where it is allowed.
+fn perform(
+    alloc: Global,
+    design: &Design,
+    state: &mut State,
+    event: &Event,
+) -> Result<(), AllocError>
+    requires design { IsDesign design.now }
+    requires state { IsStateOf design.now state.old }
+    requires few { AtMost 100 state.old }
+    ensures state { OnOk result (IsStateOf design.now state.new) }
+    ensures few { (most : ℕ) → AtMost most state.old → OnOk result (AtMost (most + 1) state.new) }
+{
+    if !allowed(alloc, design, state, event)? {
+        return Ok(());
+    }
+    apply(alloc, design, state, event)?;
+    Ok(())
+}
+
+// Performs those of the events that are allowed, from the start on.
+fn after(alloc: Global, design: &Design, events: &[Event]) -> Result<State, AllocError>
+    requires design { IsDesign design.now }
+    requires few { length events.now < 100 }
+    ensures { IfOk result (λ state. IsStateOf design.now state) }
+{
+    let mut state = start(alloc, design)?;
+    for event in events {
+        perform(alloc, design, &mut state, event)?;
+    }
+    Ok(state)
+}
+
+fn shows(state: &State, net: u32, value: &Value) -> bool {
+    (net as usize) < state.env.nets.len() && same(state.net(net), value)
+}
+
+#[test]
+fn performs_events(rt: HostRuntime) -> Result<(), Fail> {
+    let alloc = rt.alloc();
+    let design = two_nets(alloc)?;
+    let evaluation = Event::Assign { assign: 0 };
+    let resolution = Event::Resolve {
+        net: 0,
+        order: order(alloc, &[0])?,
+    };
+    let events = vec![in alloc; evaluation, resolution]?;
+    let state = after(alloc, &design, &events)?;
+    let five = number(alloc, 5)?;
+    assert!(rt; shows(&state, 0, &five));
+    assert_eq!(rt; state.count(&events[1]), 1);
+    Ok(())
+}
