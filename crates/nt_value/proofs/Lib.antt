@@ -1,4 +1,14 @@
+pub mod Bitwise
+pub mod Congruence
 pub mod Flips
+pub mod Joins
+pub mod Modular
 pub mod Prints
 pub mod Puts
+pub mod Results
+pub mod Signs
+pub mod Tables
+pub mod Truths
+pub mod Widths
 pub mod Words
+pub mod Returns

@@ -1,5 +1,9 @@
+pub mod Arithmetic
 pub mod Changes
 pub mod Digits
+pub mod Laws
+pub mod Logic
+pub mod Operators
 pub mod Shapes
 pub mod Stored
 pub mod Texts

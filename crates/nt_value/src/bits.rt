@@ -12,9 +12,9 @@ use std::marker::Model;
 // (0, 1).
 #[derive(Clone, Copy, Debug)]
 pub struct Bits {
-    leaf: Leaf,
-    ones: u64,
-    unknown: u64,
+    pub(crate) leaf: Leaf,
+    pub(crate) ones: u64,
+    pub(crate) unknown: u64,
 }
 
 impl Model for Bits {
@@ -34,7 +34,7 @@ impl Model for Bits {
 }
 
 // The word whose lowest bits are 1.
-fn low_ones(width: u8) -> u64
+pub(crate) fn low_ones(width: u8) -> u64
     requires low { 1 ≤ width }
     requires high { width ≤ 64 }
     ensures { result ≡ 2 ^ width - 1 }

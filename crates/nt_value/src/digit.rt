@@ -16,6 +16,7 @@ pub enum Digit {
 
 impl Digit {
     ghost use Rattle.nt_value.specs.Digits.{is_known};
+    ghost use Rattle.nt_value.specs.Logic.{digit_if, and_digit, not_digit, or_digit, xor_digit};
     ghost use Rattle.nt_value.specs.Stored.{digit_of, is_one_bit, is_unknown_bit};
 
     /// Whether the digit is 0 or 1.
@@ -58,5 +59,56 @@ impl Digit {
             Digit::X | Digit::Z => true,
             Digit::Zero | Digit::One => false,
         }
+    }
+
+    // `~` of the digit.
+    pub(crate) fn not(self) -> Digit
+        ensures { result ≡ not_digit self }
+    {
+        match self {
+            Digit::Zero => Digit::One,
+            Digit::One => Digit::Zero,
+            Digit::X | Digit::Z => Digit::X,
+        }
+    }
+
+    // `&`: 0 where one is 0, 1 where both are 1, else x.
+    pub(crate) fn and(self, other: Digit) -> Digit
+        ensures { result ≡ and_digit self other }
+    {
+        match (self, other) {
+            (Digit::Zero, _) | (_, Digit::Zero) => Digit::Zero,
+            (Digit::One, Digit::One) => Digit::One,
+            _ => Digit::X,
+        }
+    }
+
+    // `|`: 1 where one is 1, 0 where both are 0, else x.
+    pub(crate) fn or(self, other: Digit) -> Digit
+        ensures { result ≡ or_digit self other }
+    {
+        match (self, other) {
+            (Digit::One, _) | (_, Digit::One) => Digit::One,
+            (Digit::Zero, Digit::Zero) => Digit::Zero,
+            _ => Digit::X,
+        }
+    }
+
+    // `^`: x where one is x or z, else 1 where they differ.
+    pub(crate) fn xor(self, other: Digit) -> Digit
+        ensures { result ≡ xor_digit self other }
+    {
+        match (self, other) {
+            (Digit::Zero, Digit::Zero) | (Digit::One, Digit::One) => Digit::Zero,
+            (Digit::Zero, Digit::One) | (Digit::One, Digit::Zero) => Digit::One,
+            _ => Digit::X,
+        }
+    }
+
+    // The digit of a test.
+    pub(crate) fn from_test(holds: bool) -> Digit
+        ensures { result ≡ digit_if holds }
+    {
+        if holds { Digit::One } else { Digit::Zero }
     }
 }
