@@ -1,0 +1,14 @@
+pub mod Digits
+pub mod Binaries
+pub mod Marks
+pub mod Places
+pub mod Cutting
+pub mod One
+pub mod Lists
+pub mod Fronts
+pub mod Longest
+pub mod Matches
+pub mod Whole
+pub mod Tens
+pub mod Words
+pub mod Says

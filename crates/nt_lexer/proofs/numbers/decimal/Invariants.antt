@@ -1,0 +1,6 @@
+use Rattle.std.proofs.Common.{◌≡◌, ◌≤◌, drop}
+use Rattle.nt_lexer.specs.Numbers.{decimal, decimal_from}
+use Rattle.nt_lexer.proofs.numbers.decimal.Given as goal
+
+abbrev pub invariant-loop-b : goal.invariant-loop-b
+invariant-loop-b l = record { value : decimal_from l.number (drop l.b-index l.text) ≡ decimal l.text; few : l.number ≤ l.most }

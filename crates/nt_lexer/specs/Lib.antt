@@ -1,0 +1,10 @@
+pub mod Bytes
+pub mod Spellings
+pub mod Numbers
+pub mod Directives
+pub mod Pieces
+pub mod Cuts
+pub mod Steps
+pub mod Laws
+pub mod Lexemes
+pub mod Quoted
