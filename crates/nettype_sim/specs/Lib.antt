@@ -1,6 +1,7 @@
+pub mod Completeness
+pub mod Outcomes
+pub mod Progress
+pub mod Runs
+pub mod Statuses
 pub mod Words
 pub mod Writes
-pub mod Runs
-pub mod Outcomes
-pub mod Completeness
-pub mod Progress

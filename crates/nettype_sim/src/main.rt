@@ -17,8 +17,13 @@ use std::process::ExitCode;
 use std::rt::Env;
 
 impl Status {
+    ghost use Rattle.std.specs.Prelude.{◌≡◌};
+    ghost use Rattle.nettype_sim.specs.Statuses.{status_number};
+
     /// The exit status of the program.
-    pub fn number(self) -> u8 {
+    pub fn number(self) -> u8
+        ensures { result ≡ status_number self }
+    {
         match self {
             Status::Done => 0,
             Status::Usage => 2,
