@@ -2,7 +2,7 @@
 ghost use Rattle.std.specs.Prelude.{◌≡◌};
 ghost use Rattle.nt_diag.specs.Texts.{rule_code};
 
-/// A rule of refusal, by the code that the program prints. What each refuses, and where, stands in docs/LANGUAGE.md.
+/// A rule of refusal, by the code that the program prints. What each refuses, and where, stands in docs/REFUSALS.md.
 #[derive(Clone, Copy, Debug, PartialEq, Eq)]
 pub enum Rule {
     /// A byte outside the profile.
