@@ -1,8 +1,11 @@
-// Copies of expressions.
+// Copies of expressions. A tree may be some 8,500 nodes deep, and each node takes a frame of `copy_expr` and one of
+// `copy_boxed`: what takes much room on the stack stands apart from both.
 ghost use Rattle.std.specs.Prelude.{◌≡◌, IfOk};
+ghost use Rattle.nt_ast.specs.declared.expr.Expr.TheVariants as variant;
 
 use crate::copy_parts::{copy_key, copy_path};
-use crate::{Expr, Key};
+use crate::{Expr, Key, Path};
+use nt_value::{Name, Place};
 use sqlite_items::{Boxed, Items};
 use std::alloc::{AllocError, Global};
 
@@ -16,17 +19,10 @@ pub fn copy_expr(alloc: Global, expr: &Expr) -> Result<Expr, AllocError>
             at: *at,
             value: *value,
         }),
-        Expr::Read { at, path } => Ok(Expr::Read {
-            at: *at,
-            path: copy_path(alloc, path)?,
-        }),
+        Expr::Read { at, path } => copy_read(alloc, *at, path),
         Expr::Member { at, of, name } => {
             let of = copy_boxed(alloc, of)?;
-            Ok(Expr::Member {
-                at: *at,
-                of,
-                name: name.copy(alloc)?,
-            })
+            member(alloc, *at, of, name)
         }
         Expr::Item { at, of, index } => {
             let of = copy_boxed(alloc, of)?;
@@ -100,34 +96,18 @@ pub fn copy_expr(alloc: Global, expr: &Expr) -> Result<Expr, AllocError>
                 no: copy_boxed(alloc, no)?,
             })
         }
-        Expr::Concat { at, parts } => {
-            Ok(Expr::Concat {
-                at: *at,
-                parts: copy_all(alloc, parts)?,
-            })
-        }
+        Expr::Concat { at, parts } => copy_concat(alloc, *at, parts),
         Expr::Repeat { at, count, parts } => {
             let count = copy_boxed(alloc, count)?;
+            let parts = copy_all(alloc, parts)?;
             Ok(Expr::Repeat {
                 at: *at,
                 count,
-                parts: copy_all(alloc, parts)?,
+                parts,
             })
         }
-        Expr::Pattern { at, items } => {
-            Ok(Expr::Pattern {
-                at: *at,
-                items: copy_keyed(alloc, items)?,
-            })
-        }
-        Expr::Call { at, path, args } => {
-            let path = copy_path(alloc, path)?;
-            Ok(Expr::Call {
-                at: *at,
-                path,
-                args: copy_all(alloc, args)?,
-            })
-        }
+        Expr::Pattern { at, items } => copy_pattern(alloc, *at, items),
+        Expr::Call { at, path, args } => copy_call(alloc, *at, path, args),
         Expr::Size { at, of } => Ok(Expr::Size {
             at: *at,
             of: copy_boxed(alloc, of)?,
@@ -143,7 +123,56 @@ pub fn copy_expr(alloc: Global, expr: &Expr) -> Result<Expr, AllocError>
     }
 }
 
+#[inline(never)]
+fn copy_read(alloc: Global, at: Place, path: &Path) -> Result<Expr, AllocError>
+    ensures { IfOk result (λ e. e ≡ variant.Read at path.now) }
+{
+    let path = copy_path(alloc, path)?;
+    Ok(Expr::Read { at, path })
+}
+
+#[inline(never)]
+fn member(alloc: Global, at: Place, of: Boxed<Expr>, name: &Name) -> Result<Expr, AllocError>
+    ensures { IfOk result (λ e. e ≡ variant.Member at of name.now) }
+{
+    let name = name.copy(alloc)?;
+    Ok(Expr::Member { at, of, name })
+}
+
 #[cycle(copy)]
+#[inline(never)]
+fn copy_concat(alloc: Global, at: Place, parts: &Items<Expr>) -> Result<Expr, AllocError>
+    ensures { IfOk result (λ e. e ≡ variant.Concat at parts.now) }
+{
+    let parts = copy_all(alloc, parts)?;
+    Ok(Expr::Concat { at, parts })
+}
+
+#[cycle(copy)]
+#[inline(never)]
+fn copy_pattern(
+    alloc: Global,
+    at: Place,
+    items: &Items<(Option<Key>, Expr)>,
+) -> Result<Expr, AllocError>
+    ensures { IfOk result (λ e. e ≡ variant.Pattern at items.now) }
+{
+    let items = copy_keyed(alloc, items)?;
+    Ok(Expr::Pattern { at, items })
+}
+
+#[cycle(copy)]
+#[inline(never)]
+fn copy_call(alloc: Global, at: Place, path: &Path, args: &Items<Expr>) -> Result<Expr, AllocError>
+    ensures { IfOk result (λ e. e ≡ variant.Call at path.now args.now) }
+{
+    let path = copy_path(alloc, path)?;
+    let args = copy_all(alloc, args)?;
+    Ok(Expr::Call { at, path, args })
+}
+
+#[cycle(copy)]
+#[inline(never)]
 pub(crate) fn copy_boxed(alloc: Global, expr: &Boxed<Expr>) -> Result<Boxed<Expr>, AllocError>
     ensures { IfOk result (λ e. e ≡ expr.now) }
 {
@@ -151,6 +180,7 @@ pub(crate) fn copy_boxed(alloc: Global, expr: &Boxed<Expr>) -> Result<Boxed<Expr
 }
 
 #[cycle(copy)]
+#[inline(never)]
 pub(crate) fn copy_all(alloc: Global, parts: &Items<Expr>) -> Result<Items<Expr>, AllocError>
     ensures { IfOk result (λ all. all ≡ parts.now) }
 {
@@ -162,6 +192,7 @@ pub(crate) fn copy_all(alloc: Global, parts: &Items<Expr>) -> Result<Items<Expr>
 }
 
 #[cycle(copy)]
+#[inline(never)]
 fn copy_keyed(
     alloc: Global,
     parts: &Items<(Option<Key>, Expr)>,

@@ -1,0 +1,16 @@
+pub mod Follows
+pub mod Begins
+pub mod Complete
+pub mod Sound
+pub mod Theorem
+pub mod Places
+pub mod Below
+pub mod Turns
+pub mod StatementTurns
+pub mod StatementFirsts
+pub mod StatementPieces
+pub mod StatementComplete
+pub mod StatementSound
+pub mod StatementWhole
+pub mod StatementTheorem
+pub mod StatementPlaces

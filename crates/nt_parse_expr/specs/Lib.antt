@@ -1,0 +1,11 @@
+pub mod Tables
+pub mod Derivation
+pub mod Reader
+pub mod Readings
+pub mod Places
+pub mod Gives
+pub mod StatementTables
+pub mod Statements
+pub mod StatementReader
+pub mod StatementReadings
+pub mod StatementPlaces
