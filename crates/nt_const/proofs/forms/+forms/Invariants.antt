@@ -1,0 +1,5 @@
+use Rattle.nt_const.proofs.Hiding.{Seeking}
+use Rattle.nt_const.proofs.forms.+forms.Given as goal
+
+abbrev pub invariant-any_hides-loop-part : goal.invariant-any_hides-loop-part
+invariant-any_hides-loop-part l = Seeking l.parts l.part-index

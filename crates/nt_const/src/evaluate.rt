@@ -1,0 +1,81 @@
+// The leaf and the value of a constant expression.
+ghost use Rattle.std.specs.Prelude.{◌≡◌};
+ghost use Rattle.nt_ast.specs.declared.expr.Expr.TheViews.{out-Expr};
+ghost use Rattle.nt_const.specs.Answers.{Evaluates, Faultless, IsTarget, Sizes};
+ghost use Rattle.nt_const.specs.Tables.{context, named, target};
+
+use crate::Constants;
+use crate::draft::{close, size_of};
+use crate::forms::hides;
+use crate::size::{Size, in_four};
+use crate::walk::{draft, place, refused};
+use nt_ast::Expr;
+use nt_diag::{Fault, Rule};
+use nt_value::{Bits, Leaf, resize};
+use std::alloc::Global;
+
+// The leaf that an expression takes where its value goes to another.
+fn context_of(to: Option<Leaf>, size: Size) -> Size
+    requires { IsTarget to }
+    ensures { result ≡ context to size }
+{
+    match to {
+        None => in_four(size),
+        Some(to) => {
+            let leaf = size.leaf();
+            Size::of(to.width.max(leaf.width), leaf.signed, true)
+        }
+    }
+}
+
+fn target_of(to: Option<Leaf>, size: Size) -> Size
+    requires { IsTarget to }
+    ensures { result ≡ target to size }
+{
+    match to {
+        None => size,
+        Some(to) => Size::new(to),
+    }
+}
+
+/// The leaf of a constant expression by itself, from its operands alone (IEEE 1800-2017, 11.6.1, 11.8.1). `known` gives
+/// names their values.
+///
+/// A refusal is the least fault by file, offset and rule: T1 at the whole expression, where a part stands in it that no
+/// names could make constant; T2 at a select, concatenation or replication of less than 1 or more than 64 digits; T3 at a
+/// bound, width or count that has an x or z, and at a bound or count that is below 0; T4 at a name that `known` lacks.
+/// Want of memory is the only other failure. The time is linear in the size of the expression, but for the search for each name.
+pub fn width_and_sign(alloc: Global, expr: &Expr, known: &Constants) -> Result<Leaf, Fault>
+    ensures answer { Sizes (named known.now) (out-Expr expr.now) result }
+    ensures faultless { Faultless (named known.now) (out-Expr expr.now) result }
+{
+    if hides(expr) {
+        return Err(refused(Rule::T1, place(expr)));
+    }
+    let a = draft(alloc, expr, known)?;
+    Ok(size_of(&a).leaf())
+}
+
+/// The value of a constant expression (IEEE 1800-2017, 11.6 to 11.8). Where `to` is a leaf, the value goes to it as by an
+/// assignment: its width is part of the context, more digits are dropped, and in two states x and z become 0 (10.7,
+/// 11.8.2). Where `to` is `None`, the value is that of the expression by itself, at its own leaf.
+///
+/// Refusals and other failures are those of `width_and_sign`, whatever `to` is.
+pub fn constant(
+    alloc: Global,
+    expr: &Expr,
+    known: &Constants,
+    to: Option<Leaf>,
+) -> Result<Bits, Fault>
+    requires target { IsTarget to }
+    ensures answer { Evaluates (named known.now) (out-Expr expr.now) to result }
+    ensures faultless { Faultless (named known.now) (out-Expr expr.now) result }
+{
+    if hides(expr) {
+        return Err(refused(Rule::T1, place(expr)));
+    }
+    let a = draft(alloc, expr, known)?;
+    let size = size_of(&a);
+    let value = close(&a, context_of(to, size));
+    Ok(resize(value, target_of(to, size).leaf()))
+}
