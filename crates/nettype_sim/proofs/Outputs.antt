@@ -1,20 +1,25 @@
 -- Writes one after another, and the texts of a run that ended or was cut off.
-use Rattle.std.proofs.Common.{◌≡◌, inl, inr, ◌⊎◌, ℕ, zero, suc, ◌+◌, ◌<◌, ◌≤◌, Bool, if◌then◌else◌, List, [], ◌∷◌, ◌++◌, Option, Some, None, IfSome, IfErr, Result, Ok, Err, length, take, refl, sym, ◌∙◌, ap, subst, arith, append_assoc, append-nil, length-append}
+use Rattle.std.proofs.Common.{◌≡◌, inl, inr, ◌⊎◌, ℕ, zero, suc, ◌+◌, ◌<◌, ◌≤◌, Bool, true, not, ◌&&◌, if◌then◌else◌, List, [], ◌∷◌, ◌++◌, Option, Some, None, IfSome, IfErr, Result, Ok, Err, length, take, refl, sym, ◌∙◌, ap, subst, arith, append_assoc, append-nil, length-append}
 use Rattle.std.proofs.Math.Seq.{take-append-add}
 use Rattle.std.proofs.lemmas.List.{take-append-le}
 use Rattle.std.proofs.lemmas.List.Elements.{All-nil, All-cons, All-head, All-tail}
 use Rattle.std.proofs.lemmas.Grind.{flat_map-append}
-use Rattle.std.specs.List.{All}
+use Rattle.std.specs.List.{All, list_any}
 use Rattle.nt_io.specs.Sinks.{SinkMeaning, Appends, Gained}
 use Rattle.nt_io.proofs.Gains.{gained_then, gained_nothing, appends_nothing}
 use Rattle.nt_design.specs.declared.design.Design.{Design}
+use Rattle.nt_design.specs.Plain.{IsPlain}
+use Rattle.nt_machine.specs.Plain.{IsPlainState}
 use Rattle.nt_machine.specs.State.{MachineState, start_state}
-use Rattle.nt_machine.specs.Execution.{Execution, IsComplete, run, expansion, copies, ended, Observation, observation_of}
-use Rattle.nt_machine.specs.Texts.{entry_line, entry_lines, witness_head, witness_end, witness_text, slot_text, end_text, trace_text}
+use Rattle.nt_machine.specs.Execution.{Execution, IsComplete, run, expansion, copies, ended, seen, is_active, is_inactive, is_entry, Observation, observation_of}
+use Rattle.nt_machine.specs.Texts.{entry_line, entry_lines, witness_head, witness_end, witness_text, slot_text, slots_text, end_text, finish_text, last_text, trace_text}
 use Rattle.nt_machine.specs.declared.event.Entry.{Entry}
 use Rattle.nettype_sim.specs.Writes.{IsFront, GainsFront, GainsPart, Opened, Filed}
 use Rattle.nettype_sim.specs.Runs.{CutOff, IsLastPart, IsCutWitness, RunsWhole, RunsInPart}
 use Rattle.nettype_sim.specs.Outcomes.{RanDesign, StoppedDesign}
+use Rattle.nt_machine.specs.Step.{is_some_put}
+use Rattle.nt_machine.proofs.Moves.{settled, ended_last}
+use Rattle.nt_machine.proofs.Starts.{start_still}
 use Rattle.nettype_sim.proofs.Steps.{run_front}
 
 pub if_err_any : {T E P : Type 0} (r : Result T E) → P → IfErr r (λ _. P)
@@ -34,21 +39,18 @@ part_behind : (a b c : SinkMeaning) (x y : List ℕ) → Gained a b x → GainsF
 part_behind a b c x y first (n, below, gained) =
     (length x + n, gained_same a c (x ++ take n y) (take (length x + n) (x ++ y)) (sym (take-append-add x y n)) (gained_then first gained))
 
--- the trace of one slot
-trace_of_slot : (d : Design) (seen : Observation) → slot_text d None seen ++ end_text 0 ≡ trace_text d 0 (seen ∷ [])
-trace_of_slot d seen = ap (λ (l : List ℕ). l ++ end_text 0) (sym (append-nil (slot_text d None seen)))
-
-pub trace_written : (d : Design) (seen : Observation) (a b c : SinkMeaning) (text last : List ℕ) → text ≡ slot_text d None seen → last ≡ end_text 0 → Gained a b text → Gained b c last → Gained a c (trace_text d 0 (seen ∷ []))
+-- the text of one slot, and the end of the run
+pub trace_written : (d : Design) (seen : Observation) (a b c : SinkMeaning) (text last : List ℕ) → text ≡ slot_text d None seen → last ≡ end_text 0 → Gained a b text → Gained b c last → Gained a c (slot_text d None seen ++ end_text 0)
 trace_written d seen a b c text last is ends first second =
-    gained_same a c (slot_text d None seen ++ end_text 0) (trace_text d 0 (seen ∷ [])) (trace_of_slot d seen) (gained_then (gained_same a b text (slot_text d None seen) is first) (gained_same b c last (end_text 0) ends second))
+    gained_then (gained_same a b text (slot_text d None seen) is first) (gained_same b c last (end_text 0) ends second)
 
-pub trace_cut_in_slot : (d : Design) (seen : Observation) (a b : SinkMeaning) (text : List ℕ) → text ≡ slot_text d None seen → GainsFront a b text → GainsPart a b (trace_text d 0 (seen ∷ []))
+pub trace_cut_in_slot : (d : Design) (seen : Observation) (a b : SinkMeaning) (text : List ℕ) → text ≡ slot_text d None seen → GainsFront a b text → GainsPart a b (slot_text d None seen ++ end_text 0)
 trace_cut_in_slot d seen a b text is front =
-    subst (λ (l : List ℕ). GainsPart a b l) (ap (λ (l : List ℕ). l ++ end_text 0) is ∙ trace_of_slot d seen) (part_before a b text (end_text 0) front)
+    subst (λ (l : List ℕ). GainsPart a b (l ++ end_text 0)) is (part_before a b text (end_text 0) front)
 
-pub trace_cut_in_end : (d : Design) (seen : Observation) (a b c : SinkMeaning) (text last : List ℕ) → text ≡ slot_text d None seen → last ≡ end_text 0 → Gained a b text → GainsFront b c last → GainsPart a c (trace_text d 0 (seen ∷ []))
+pub trace_cut_in_end : (d : Design) (seen : Observation) (a b c : SinkMeaning) (text last : List ℕ) → text ≡ slot_text d None seen → last ≡ end_text 0 → Gained a b text → GainsFront b c last → GainsPart a c (slot_text d None seen ++ end_text 0)
 trace_cut_in_end d seen a b c text last is ends first front =
-    subst (λ (l : List ℕ). GainsPart a c l) ((λ i. is i ++ ends i) ∙ trace_of_slot d seen) (part_behind a b c text last first front)
+    subst (λ (l : List ℕ). GainsPart a c l) (λ i. is i ++ ends i) (part_behind a b c text last first front)
 
 -- a front of the lines of entries: the lines of the first of them, and a last part
 record CutLines (entries : List Entry) (text : List ℕ) : Type 0 where
@@ -108,10 +110,10 @@ execution_front : (until : ℕ) (d : Design) (xs ys : List Entry) (s : MachineSt
 execution_front until d xs ys s execution =
     let runs = subst (λ (es : List _). run until d es (start_state d) ≡ Some s) (flat_map-append copies xs ys) execution.runs in
     let front = run_front until d (expansion xs) (expansion ys) (start_state d) s runs in
-    (front.0, record { counted = all_front (λ (e : Entry). 1 ≤ e.count) xs ys execution.counted; runs = front.1 })
+    (front.0, record { counted = all_front (λ (e : Entry). is_entry d e ≡ true) xs ys execution.counted; runs = front.1 })
 
 no_entries : (until : ℕ) (d : Design) → Execution until d [] (start_state d)
-no_entries until d = record { counted = All-nil (λ (e : Entry). 1 ≤ e.count); runs = refl }
+no_entries until d = record { counted = All-nil (λ (e : Entry). is_entry d e ≡ true); runs = refl }
 
 -- a run that is cut off before its trace begins
 untraced : (until : ℕ) (d : Design) (entries : List Entry) (reached : MachineState) (file : List ℕ) → Execution until d entries reached → IsCutWitness entries file → CutOff until d file []
@@ -138,51 +140,64 @@ cut_in_entries d entries s t a b c execution head (n, gained) =
     let front = execution_front 0 d cut.whole cut.rest s (subst (λ (es : List Entry). Execution 0 d es s) cut.entries_are execution) in
     (witness_head ++ take n (entry_lines entries), [], untraced 0 d cut.whole front.0 _ front.1 (inr (cut.part, cut.last, ap (λ (l : List ℕ). witness_head ++ l) cut.text_is)), gained_then head gained, gained_nothing)
 
-ended_there : (until : ℕ) (s : MachineState) → IsComplete until s → observation_of s ∷ [] ≡ ended until s
-ended_there until s complete =
-    ap (λ (b : Bool). seen_unless b) (sym complete)
-  where
-    seen_unless : Bool → List Observation
-    seen_unless b = if b then [] else observation_of s ∷ []
+-- the trace of a run of nets and constants: its one slot, and the end
+module _ (d : Design) (entries : List Entry) (s : MachineState) (execution : Execution 0 d entries s) (plain : IsPlain d) (still : IsPlainState s) (complete : IsComplete 0 s) where
+  slot_over : seen s ≡ observation_of s ∷ []
+  slot_over =
+      ap (λ b. if not b && (not (list_any is_inactive s.places) && not (is_some_put s.nonblocking)) then observation_of s ∷ [] else []) (ap is_active (sym (settled 0 s still)) ∙ complete)
+      ∙ ap (λ places. if not (list_any is_inactive places) && not (is_some_put s.nonblocking) then observation_of s ∷ [] else []) still.places
+      ∙ ap (λ puts. if not (is_some_put puts) then observation_of s ∷ [] else []) still.nonblocking
 
--- a run that is cut off behind its entries
-traced : (d : Design) (entries : List Entry) (s : MachineState) (part seen : List ℕ) → Execution 0 d entries s → IsComplete 0 s → IsLastPart part → IsFront seen (trace_text d 0 (observation_of s ∷ [])) → CutOff 0 d (witness_head ++ (entry_lines entries ++ part)) seen
-traced d entries s part seen execution complete last front = record {
-  entries = entries;
-  reached = s;
-  execution = execution;
-  witness_is = inr (part, last, refl);
-  trace_is = subst (λ (slots : List Observation). IsFront seen (trace_text d 0 slots)) (ended_there 0 s complete) front;
-  ended_only = inr complete;
-}
+  ended_there : ended 0 d (expansion entries) (start_state d) ≡ observation_of s ∷ []
+  ended_there =
+      ended_last 0 d (expansion entries) (start_state d) s plain (start_still d plain) execution.runs ∙ slot_over
 
-pub cut_in_trace : (d : Design) (entries : List Entry) (s : MachineState) (t u a b c : SinkMeaning) → Execution 0 d entries s → IsComplete 0 s → Gained a b witness_head → Gained b c (entry_lines entries) → GainsPart t u (trace_text d 0 (observation_of s ∷ [])) → RunsInPart 0 d t u a c
-cut_in_trace d entries s t u a b c execution complete head lines (n, seen) =
-    (_, _, traced d entries s [] (take n (trace_text d 0 (observation_of s ∷ []))) execution complete no_part (n, refl), gained_then head (gained_then lines gained_nothing), seen)
+  one_slot : slots_text d None (observation_of s ∷ []) ≡ slot_text d None (observation_of s)
+  one_slot = append-nil (slot_text d None (observation_of s))
 
-pub cut_in_end : (d : Design) (entries : List Entry) (s : MachineState) (t u a b c e : SinkMeaning) → Execution 0 d entries s → IsComplete 0 s → Gained a b witness_head → Gained b c (entry_lines entries) → Gained t u (trace_text d 0 (observation_of s ∷ [])) → GainsFront c e witness_end → RunsInPart 0 d t u a e
-cut_in_end d entries s t u a b c e execution complete head lines seen (n, below, gained) =
-    (_, _, traced d entries s (take n witness_end) (trace_text d 0 (observation_of s ∷ [])) execution complete (inr (n, below, refl)) (length (trace_text d 0 (observation_of s ∷ [])), sym (take_whole (trace_text d 0 (observation_of s ∷ [])))), gained_then head (gained_then lines gained), seen)
-  where
-    take_whole : (l : List ℕ) → take (length l) l ≡ l
-    take_whole [] = refl
-    take_whole (x ∷ xs) = ap (λ (l : List ℕ). x ∷ l) (take_whole xs)
+  trace_is : slot_text d None (observation_of s) ++ end_text 0 ≡ trace_text d 0 (ended 0 d (expansion entries) (start_state d)) s
+  trace_is =
+      (λ i. sym one_slot i ++ (if sym still.finished i then finish_text s.moment else end_text 0))
+      ∙ ap (λ slots. trace_text d 0 slots s) (sym ended_there)
 
-pub ran_whole : (d : Design) (entries : List Entry) (s : MachineState) (t u a b c e : SinkMeaning) → Execution 0 d entries s → IsComplete 0 s → Gained a b witness_head → Gained b c (entry_lines entries) → Gained t u (trace_text d 0 (observation_of s ∷ [])) → Gained c e witness_end → RunsWhole 0 d t u a e
-ran_whole d entries s t u a b c e execution complete head lines seen gained = (
-  witness_text entries,
-  trace_text d 0 (observation_of s ∷ []),
-  record {
+  -- a run that is cut off behind its entries
+  traced : (part trace : List ℕ) → IsLastPart part → IsFront trace (slot_text d None (observation_of s) ++ end_text 0) → CutOff 0 d (witness_head ++ (entry_lines entries ++ part)) trace
+  traced part trace last front = record {
     entries = entries;
-    end_state = s;
+    reached = s;
     execution = execution;
-    complete = complete;
-    witness_is = refl;
-    trace_is = ap (trace_text d 0) (ended_there 0 s complete);
-  },
-  gained_then head (gained_then lines gained),
-  seen,
-)
+    witness_is = inr (part, last, refl);
+    trace_is = subst (IsFront trace) trace_is front;
+    ended_only = inr complete;
+  }
+
+  pub cut_in_trace : (t u a b c : SinkMeaning) → Gained a b witness_head → Gained b c (entry_lines entries) → GainsPart t u (slot_text d None (observation_of s) ++ end_text 0) → RunsInPart 0 d t u a c
+  cut_in_trace t u a b c head lines (n, seen) =
+      (_, _, traced [] (take n (slot_text d None (observation_of s) ++ end_text 0)) no_part (n, refl), gained_then head (gained_then lines gained_nothing), seen)
+
+  take_whole : (l : List ℕ) → take (length l) l ≡ l
+  take_whole [] = refl
+  take_whole (x ∷ xs) = ap (λ (l : List ℕ). x ∷ l) (take_whole xs)
+
+  pub cut_in_end : (t u a b c e : SinkMeaning) → Gained a b witness_head → Gained b c (entry_lines entries) → Gained t u (slot_text d None (observation_of s) ++ end_text 0) → GainsFront c e witness_end → RunsInPart 0 d t u a e
+  cut_in_end t u a b c e head lines seen (n, below, gained) =
+      (_, _, traced (take n witness_end) (slot_text d None (observation_of s) ++ end_text 0) (inr (n, below, refl)) (length (slot_text d None (observation_of s) ++ end_text 0), sym (take_whole (slot_text d None (observation_of s) ++ end_text 0))), gained_then head (gained_then lines gained), seen)
+
+  pub ran_whole : (t u a b c e : SinkMeaning) → Gained a b witness_head → Gained b c (entry_lines entries) → Gained t u (slot_text d None (observation_of s) ++ end_text 0) → Gained c e witness_end → RunsWhole 0 d t u a e
+  ran_whole t u a b c e head lines seen gained = (
+    witness_text entries,
+    slot_text d None (observation_of s) ++ end_text 0,
+    record {
+      entries = entries;
+      end_state = s;
+      execution = execution;
+      complete = complete;
+      witness_is = refl;
+      trace_is = trace_is;
+    },
+    gained_then head (gained_then lines gained),
+    seen,
+  )
 
 -- a sink that was opened and then gained these bytes
 filed : (a b c : SinkMeaning) (path bytes : List ℕ) → Opened a b path → Gained b c bytes → Filed a c path bytes

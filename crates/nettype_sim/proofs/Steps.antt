@@ -1,21 +1,28 @@
 -- How a run goes on by one event.
-use Rattle.std.proofs.Common.{◌≡◌, inl, inr, ◌⊎◌, ℕ, zero, suc, ◌+◌, ◌-◌, ◌<◌, ◌≤◌, ◌^◌, Bool, true, false, ◌||◌, nat_lt, if◌then◌else◌, List, [], ◌∷◌, ◌++◌, length, get_or, Option, Some, None, slice_get, option_and_then, replicate, refl, sym, ◌∙◌, ap, subst, arith, get_or-set_same, get_or-set_other, IsSome}
+use Rattle.std.proofs.Common.{◌≡◌, inl, inr, ◌⊎◌, ℕ, zero, suc, ◌+◌, ◌-◌, ◌<◌, ◌≤◌, ◌^◌, Bool, true, false, ◌||◌, ◌&&◌, ◌==◌, nat_lt, lt-ltb, if◌then◌else◌, List, [], ◌∷◌, ◌++◌, length, get_or, Option, Some, None, slice_get, option_and_then, replicate, refl, sym, ◌∙◌, ap, subst, arith, get_or-set_same, get_or-set_other, IsSome}
 use Rattle.std.specs.List.{All, list_any, range_with_len}
 use Rattle.std.proofs.lemmas.Bool.{cases_eq}
 use Rattle.std.proofs.lemmas.List.{flat_map_more, replicate_more, get_or_past, get_or-replicate}
-use Rattle.std.proofs.lemmas.List.Elements.{All-append}
+use Rattle.std.proofs.lemmas.List.Elements.{All-append, All-nil, All-cons}
 use Rattle.std.proofs.lemmas.Option.{none-some}
-use Rattle.nt_design.specs.WellFormed.{IsDesign, net_of}
+use Rattle.nt_design.specs.Parts.{Value}
+use Rattle.nt_design.specs.Plain.{IsPlain}
+use Rattle.nt_design.specs.WellFormed.{IsDesign}
 use Rattle.nt_design.specs.declared.design.Design.{Design}
-use Rattle.nt_machine.specs.Same.{same_value}
-use Rattle.nt_machine.specs.State.{MachineState, start_state, IsStateOf, AtMost, count_at, less, more}
-use Rattle.nt_machine.specs.Step.{step}
-use Rattle.nt_machine.specs.Execution.{IsComplete, run, settle, is_active, expansion, copies}
+use Rattle.nt_machine.specs.Plain.{IsPlainState}
+use Rattle.nt_machine.specs.Same.{is_same}
+use Rattle.nt_machine.specs.State.{MachineState, start_state, value_at, place_at, count_at, fewer, more}
+use Rattle.nt_machine.specs.StateFits.{IsStateOf, AtMost}
+use Rattle.nt_machine.specs.Step.{step, is_pending_at, is_some_put}
+use Rattle.nt_machine.specs.Execution.{IsComplete, run, settle, is_active, expansion, copies, is_entry, may_repeat, reads_own_target, reads_target}
 use Rattle.nt_machine.specs.declared.event.Event.{Event}
-use Rattle.nt_machine.specs.declared.event.Event.TheVariants.{Assign, Resolve}
+use Rattle.nt_machine.specs.declared.event.Event.TheVariants.{Stmt, Assign, Update, Resolve}
 use Rattle.nt_machine.specs.declared.event.Entry.{Entry}
-use Rattle.nt_machine.proofs.Moves.{settled}
-use Rattle.nt_machine.proofs.Steps.{can_evaluate, can_resolve, evaluated_to, resolved_to, start_fits}
+use Rattle.nt_machine.proofs.Counts.{at_most_counts}
+use Rattle.nt_machine.proofs.Moves.{settled, step_still}
+use Rattle.nt_machine.proofs.StartFitting.{start_fits}
+use Rattle.nt_machine.proofs.Starts.{start_still}
+use Rattle.nt_machine.proofs.Steps.{can_evaluate, can_resolve, evaluated_to, resolved_to}
 use Rattle.nettype_sim.specs.Progress.{LeadsTo, Evaluated, Resolved, CanResolve, ResolvedTimes}
 
 -- two runs, one after the other
@@ -31,9 +38,9 @@ run_append until d (x ∷ xs) ys s =
 pub run_then : (until : ℕ) (d : Design) (xs ys : List Event) (s m t : MachineState) → run until d xs s ≡ Some m → run until d ys m ≡ Some t → run until d (xs ++ ys) s ≡ Some t
 run_then until d xs ys s m t first second = run_append until d xs ys s ∙ ap (option_and_then (run until d ys)) first ∙ second
 
-pub run_step : (until : ℕ) (d : Design) (s t : MachineState) (e : Event) → step d s e ≡ Some t → run until d (e ∷ []) s ≡ Some t
-run_step until d s t e h =
-    ap (option_and_then (run until d [])) (ap (λ x. step d x e) (settled until s) ∙ h)
+pub run_step : (until : ℕ) (d : Design) (s t : MachineState) (e : Event) → IsPlainState s → step d s e ≡ Some t → run until d (e ∷ []) s ≡ Some t
+run_step until d s t e still h =
+    ap (option_and_then (run until d [])) (ap (λ x. step d x e) (settled until s still) ∙ h)
 
 -- the front of a run is a run
 some_before : {A B : Type 0} (f : A → Option B) (o : Option A) (b : B) → option_and_then f o ≡ Some b → (a : A) × (o ≡ Some a)
@@ -43,23 +50,24 @@ some_before f (Some a) b h = (a, refl)
 pub run_front : (until : ℕ) (d : Design) (xs ys : List Event) (s t : MachineState) → run until d (xs ++ ys) s ≡ Some t → (m : MachineState) × (run until d xs s ≡ Some m)
 run_front until d xs ys s t h = some_before (run until d ys) (run until d xs s) t (sym (run_append until d xs ys s) ∙ h)
 
-pub entry_added : (until : ℕ) (d : Design) (s t : MachineState) (entries : List Entry) (entry : Entry) → LeadsTo until d entries s → 1 ≤ entry.count → run until d (copies entry) s ≡ Some t → IsStateOf d t → LeadsTo until d (entries ++ entry ∷ []) t
-entry_added until d s t entries entry leads counts more fits = record {
+pub entry_added : (until : ℕ) (d : Design) (s t : MachineState) (entries : List Entry) (entry : Entry) → LeadsTo until d entries s → is_entry d entry ≡ true → run until d (copies entry) s ≡ Some t → IsStateOf d t → IsPlainState t → LeadsTo until d (entries ++ entry ∷ []) t
+entry_added until d s t entries entry leads counts more fits plain = record {
   execution = record {
-    counted = All-append (λ (e : Entry). 1 ≤ e.count) entries (entry ∷ []) leads.execution.counted (one_entry entry counts);
+    counted = All-append (λ (e : Entry). is_entry d e ≡ true) entries (entry ∷ []) leads.execution.counted (one_entry entry counts);
     runs = subst (λ (es : List Event). run until d es (start_state d) ≡ Some t) (flat_map_more copies [] entries entry) (run_then until d (expansion entries) (copies entry) (start_state d) s t leads.execution.runs more);
   };
   fits = fits;
+  plain = plain;
 }
   where
-    one_entry : (entry : Entry) → 1 ≤ entry.count → All (λ (e : Entry). 1 ≤ e.count) (entry ∷ [])
-    one_entry entry h zero d' k = h
-    one_entry entry h (suc i) d' k = absurd (omega (arith, k))
+    one_entry : (entry : Entry) → is_entry d entry ≡ true → All (λ (e : Entry). is_entry d e ≡ true) (entry ∷ [])
+    one_entry entry h = All-cons (λ (e : Entry). is_entry d e ≡ true) entry [] h (All-nil (λ (e : Entry). is_entry d e ≡ true))
 
-pub start_leads : (until : ℕ) (d : Design) → IsStateOf d (start_state d) → LeadsTo until d [] (start_state d)
-start_leads until d fits = record {
-  execution = record { counted = λ k e h. absurd (omega (arith, h)); runs = refl };
-  fits = fits;
+pub start_leads : (until : ℕ) (d : Design) → IsDesign d → IsPlain d → LeadsTo until d [] (start_state d)
+start_leads until d is plain = record {
+  execution = record { counted = All-nil (λ (e : Entry). is_entry d e ≡ true); runs = refl };
+  fits = start_fits d is;
+  plain = start_still d plain;
 }
 
 lt_or_le : (k n : ℕ) → (k < n) ⊎ (n ≤ k)
@@ -75,10 +83,10 @@ some_at [] i h = absurd (omega (arith, h))
 some_at (x ∷ xs) zero h = (x, refl)
 some_at (x ∷ xs) (suc i) h = some_at xs i (omega (arith, h))
 
-less_same : (counts : List ℕ) (i : ℕ) → i < length counts → count_at (less counts i) i ≡ count_at counts i - 1
+less_same : (counts : List ℕ) (i : ℕ) → i < length counts → count_at (fewer 1 counts i) i ≡ count_at counts i - 1
 less_same counts i h = get_or-set_same counts i _ 0 h
 
-less_other : (counts : List ℕ) (i k : ℕ) → (k ≡ i → ⊥) → count_at (less counts i) k ≡ count_at counts k
+less_other : (counts : List ℕ) (i k : ℕ) → (k ≡ i → ⊥) → count_at (fewer 1 counts i) k ≡ count_at counts k
 less_other counts i k h = get_or-set_other counts i k _ 0 h
 
 -- a count that is raised at one place falls nowhere, and rises by one at most
@@ -91,64 +99,67 @@ more_within (x ∷ xs) (suc n) (suc k) = more_within xs n k
 
 -- what an evaluation leaves of the counts
 record EvaluationLeaves (s : MachineState) (a : ℕ) (t : MachineState) : Type 0 where
-  assigns : t.assigns ≡ less s.assigns a
-  resolves : (k : ℕ) → (count_at s.resolves k ≤ count_at t.resolves k) × (count_at t.resolves k ≤ count_at s.resolves k + 1)
+  evaluations : t.evaluations ≡ fewer 1 s.evaluations a
+  resolutions : (k : ℕ) → (count_at s.resolutions k ≤ count_at t.resolutions k) × (count_at t.resolutions k ≤ count_at s.resolutions k + 1)
 
-evaluation_leaves : (d : Design) (s t : MachineState) (a : ℕ) → step d s (Assign a) ≡ Some t → EvaluationLeaves s a t
-evaluation_leaves d s t a h =
-    let x = evaluated_to d s t a h in
+evaluation_leaves : (d : Design) (s t : MachineState) (a : ℕ) → IsPlain d → step d s (Assign a) ≡ Some t → EvaluationLeaves s a t
+evaluation_leaves d s t a plain h =
+    let x = evaluated_to d s t a plain h in
     subst (EvaluationLeaves s a) (sym x.2) record {
-      assigns = refl;
-      resolves = λ k. within (same_value (get_or s.slots a []) x.1) (net_of (x.0).target) k;
+      evaluations = refl;
+      resolutions = λ k. within (is_same (value_at s.slots a) x.1) x.0 k;
     }
   where
-    within : (b : Bool) (n k : ℕ) → (count_at s.resolves k ≤ count_at (if b then s.resolves else more s.resolves n) k) × (count_at (if b then s.resolves else more s.resolves n) k ≤ count_at s.resolves k + 1)
+    within : (b : Bool) (n k : ℕ) → (count_at s.resolutions k ≤ count_at (if b then s.resolutions else more s.resolutions n) k) × (count_at (if b then s.resolutions else more s.resolutions n) k ≤ count_at s.resolutions k + 1)
     within true n k = (omega arith, omega arith)
-    within false n k = more_within s.resolves n k
+    within false n k = more_within s.resolutions n k
 
 -- the next assignment can be evaluated
-pub next_evaluation : (until : ℕ) (d : Design) (a : ℕ) (entries : List Entry) (s : MachineState) → a < length d.assigns → Evaluated until d a entries s → IsSome (step d s (Assign a))
-next_evaluation until d a entries s within so_far =
+pub next_evaluation : (until : ℕ) (d : Design) (a : ℕ) (entries : List Entry) (s : MachineState) → IsPlain d → a < length d.assigns → Evaluated until d a entries s → IsSome (step d s (Assign a))
+next_evaluation until d a entries s plain within so_far =
     let here = some_at d.assigns a within in
     let one = so_far.left a (omega arith) within in
-    can_evaluate d s a here.0 here.1 (omega (arith, one))
+    can_evaluate d s a here.0 plain here.1 (omega (arith, one))
 
 pub evaluated_few : (until : ℕ) (d : Design) (a : ℕ) (entries : List Entry) (s : MachineState) → IsDesign d → a ≤ length d.assigns → Evaluated until d a entries s → AtMost (2 ^ 20) s
-evaluated_few until d a entries s is within so_far (Resolve n order) = omega (arith, so_far.few n, within, is.few_assigns)
-evaluated_few until d a entries s is within so_far (Assign k) = elim (lt_or_le k a) [
-  | inl below ↦ omega (arith, so_far.done k below)
-  | inr past ↦ elim (lt_or_le k (length d.assigns)) [
-    | inl there ↦ omega (arith, so_far.left k past there)
-    | inr beyond ↦ omega (arith, get_or_past s.assigns k 0 (omega (arith, beyond, so_far.leads.fits.assigns)))
-  ]
-]
+evaluated_few until d a entries s is within so_far =
+    at_most_counts (2 ^ 20) s (omega arith) so_far.leads.plain evaluations (λ n. omega (arith, so_far.few n, within, is.small.processes))
+  where
+    evaluations : (k : ℕ) → count_at s.evaluations k ≤ 2 ^ 20
+    evaluations k = elim (lt_or_le k a) [
+      | inl below ↦ omega (arith, so_far.done k below)
+      | inr past ↦ elim (lt_or_le k (length d.assigns)) [
+        | inl there ↦ omega (arith, so_far.left k past there)
+        | inr beyond ↦ omega (arith, get_or_past s.evaluations k 0 (omega (arith, beyond, so_far.leads.fits.evaluations)))
+      ]
+    ]
 
 pub few_more : (s : MachineState) → AtMost (2 ^ 20) s → AtMost (2 ^ 62) s
 few_more s few e = omega (arith, few e)
 
-pub evaluated_more : (until : ℕ) (d : Design) (a : ℕ) (entries : List Entry) (s t : MachineState) → a < length d.assigns → Evaluated until d a entries s → step d s (Assign a) ≡ Some t → IsStateOf d t → Evaluated until d (a + 1) (entries ++ record { event = Assign a; count = 1 } ∷ []) t
-evaluated_more until d a entries s t within so_far h fits = record {
-  leads = entry_added until d s t entries record { event = Assign a; count = 1 } so_far.leads (omega arith) (run_step until d s t (Assign a) h) fits;
+pub evaluated_more : (until : ℕ) (d : Design) (a : ℕ) (entries : List Entry) (s t : MachineState) → IsPlain d → a < length d.assigns → Evaluated until d a entries s → step d s (Assign a) ≡ Some t → IsStateOf d t → IsPlainState t → Evaluated until d (a + 1) (entries ++ record { event = Assign a; count = 1 } ∷ []) t
+evaluated_more until d a entries s t plain within so_far h fits still = record {
+  leads = entry_added until d s t entries record { event = Assign a; count = 1 } so_far.leads refl (run_step until d s t (Assign a) so_far.leads.plain h) fits still;
   done = λ k below. elim (cases_eq k a) [
     | inl same ↦ now_done k same
-    | inr other ↦ at k ∙ less_other s.assigns a k other ∙ so_far.done k (omega (arith, below, other))
+    | inr other ↦ at k ∙ less_other s.evaluations a k other ∙ so_far.done k (omega (arith, below, other))
   ];
-  left = λ k past there. let other : k ≡ a → ⊥ = λ e. omega (arith, e, past) in at k ∙ less_other s.assigns a k other ∙ so_far.left k (omega (arith, past)) there;
-  once = λ n there. omega (arith, (leaves.resolves n).0, so_far.once n there);
-  few = λ n. omega (arith, (leaves.resolves n).1, so_far.few n);
+  left = λ k past there. let other : k ≡ a → ⊥ = λ e. omega (arith, e, past) in at k ∙ less_other s.evaluations a k other ∙ so_far.left k (omega (arith, past)) there;
+  once = λ n there. omega (arith, (leaves.resolutions n).0, so_far.once n there);
+  few = λ n. omega (arith, (leaves.resolutions n).1, so_far.few n);
 }
   where
     leaves : EvaluationLeaves s a t
-    leaves = evaluation_leaves d s t a h
+    leaves = evaluation_leaves d s t a plain h
 
-    at : (k : ℕ) → count_at t.assigns k ≡ count_at (less s.assigns a) k
-    at k = ap (λ (l : List ℕ). count_at l k) leaves.assigns
+    at : (k : ℕ) → count_at t.evaluations k ≡ count_at (fewer 1 s.evaluations a) k
+    at k = ap (λ (l : List ℕ). count_at l k) leaves.evaluations
 
-    now_done : (k : ℕ) → k ≡ a → count_at t.assigns k ≡ 0
+    now_done : (k : ℕ) → k ≡ a → count_at t.evaluations k ≡ 0
     now_done k same =
-        let here = less_same s.assigns a (omega (arith, within, so_far.leads.fits.assigns)) in
+        let here = less_same s.evaluations a (omega (arith, within, so_far.leads.fits.evaluations)) in
         let one = so_far.left a (omega arith) within in
-        ap (λ i. count_at t.assigns i) same ∙ at a ∙ here ∙ omega (arith, one)
+        ap (λ i. count_at t.evaluations i) same ∙ at a ∙ here ∙ omega (arith, one)
 
 -- after the last evaluation the resolutions begin
 pub resolutions_begin : (until : ℕ) (d : Design) (entries : List Entry) (s : MachineState) → IsDesign d → Evaluated until d (length d.assigns) entries s → Resolved until d 0 entries s
@@ -156,69 +167,91 @@ resolutions_begin until d entries s is so_far = record {
   leads = so_far.leads;
   evaluated = λ k. elim (lt_or_le k (length d.assigns)) [
     | inl below ↦ so_far.done k below
-    | inr past ↦ get_or_past s.assigns k 0 (omega (arith, past, so_far.leads.fits.assigns))
+    | inr past ↦ get_or_past s.evaluations k 0 (omega (arith, past, so_far.leads.fits.evaluations))
   ];
   done = λ k h. absurd (omega (arith, h));
   left = λ k h there. so_far.once k there;
   few = evaluated_few until d (length d.assigns) entries s is (omega arith) so_far;
 }
 
-pub not_resolved : (until : ℕ) (d : Design) (n : ℕ) (event : Event) (s : MachineState) → IsStateOf d s → ResolvedTimes until d n event 0 s s
-not_resolved until d n event s of = record { runs = refl; fits = of; assigns = refl; resolved = omega arith; others = λ k h. refl }
+pub not_resolved : (until : ℕ) (d : Design) (n : ℕ) (event : Event) (s : MachineState) → IsStateOf d s → IsPlainState s → ResolvedTimes until d n event 0 s s
+not_resolved until d n event s of still = record { runs = refl; fits = of; plain = still; evaluations = refl; resolved = omega arith; others = λ k h. refl }
 
-pub still_pending : (until : ℕ) (d : Design) (n : ℕ) (event : Event) (turn : ℕ) (old s : MachineState) → CanResolve d n event → ResolvedTimes until d n event turn old s → turn < count_at old.resolves n → IsSome (step d s event)
-still_pending until d n (Assign a) turn old s can so_far h = absurd can
-still_pending until d n (Resolve m order) turn old s (same, net, here, in_order) so_far h =
+pub still_pending : (until : ℕ) (d : Design) (n : ℕ) (event : Event) (turn : ℕ) (old s : MachineState) → IsPlain d → CanResolve d n event → ResolvedTimes until d n event turn old s → turn < count_at old.resolutions n → IsSome (step d s event)
+still_pending until d n (Stmt p) turn old s plain can so_far h = absurd can
+still_pending until d n (Assign a) turn old s plain can so_far h = absurd can
+still_pending until d n Update turn old s plain can so_far h = absurd can
+still_pending until d n (Resolve m order) turn old s plain (same, net, here, in_order) so_far h =
     let P : ℕ → Type 0 = λ k. IsSome (step d s (Resolve k order)) in
-    subst P (sym same) (can_resolve d s n order net here in_order (omega (arith, so_far.resolved, h)))
+    subst P (sym same) (can_resolve d s n order net plain so_far.plain here in_order (omega (arith, so_far.resolved, h)))
 
 pub still_few : (until : ℕ) (d : Design) (n : ℕ) (event : Event) (turn : ℕ) (old s : MachineState) → AtMost (2 ^ 20) old → ResolvedTimes until d n event turn old s → AtMost (2 ^ 20) s
-still_few until d n event turn old s few so_far (Assign a) =
-    let e = ap (λ (l : List ℕ). count_at l a) so_far.assigns in omega (arith, e, few (Assign a))
-still_few until d n event turn old s few so_far (Resolve k order) =
-    elim (cases_eq k n) [
-      | inl same ↦ let e = ap (λ i. count_at s.resolves i) same in omega (arith, e, so_far.resolved, few (Resolve n order))
-      | inr other ↦ omega (arith, so_far.others k other, few (Resolve k order))
+still_few until d n event turn old s few so_far =
+    at_most_counts (2 ^ 20) s (omega arith) so_far.plain (λ a. let e = ap (λ (l : List ℕ). count_at l a) so_far.evaluations in omega (arith, e, few (Assign a))) resolutions
+  where
+    resolutions : (k : ℕ) → count_at s.resolutions k ≤ 2 ^ 20
+    resolutions k = elim (cases_eq k n) [
+      | inl same ↦ let e = ap (λ i. count_at s.resolutions i) same in omega (arith, e, so_far.resolved, few (Resolve n []))
+      | inr other ↦ omega (arith, so_far.others k other, few (Resolve k []))
     ]
 
 -- what a resolution leaves of the counts
 record ResolutionLeaves (s : MachineState) (n : ℕ) (t : MachineState) : Type 0 where
-  assigns : t.assigns ≡ s.assigns
-  resolves : t.resolves ≡ less s.resolves n
+  evaluations : t.evaluations ≡ s.evaluations
+  resolutions : t.resolutions ≡ fewer 1 s.resolutions n
 
-resolution_leaves : (d : Design) (s t : MachineState) (n : ℕ) (order : List ℕ) → step d s (Resolve n order) ≡ Some t → ResolutionLeaves s n t
-resolution_leaves d s t n order h =
-    let x = resolved_to d s t n order h in
-    subst (ResolutionLeaves s n) (sym x.1) record { assigns = refl; resolves = refl }
+resolution_leaves : (d : Design) (s t : MachineState) (n : ℕ) (order : List ℕ) → IsPlain d → IsPlainState s → step d s (Resolve n order) ≡ Some t → ResolutionLeaves s n t
+resolution_leaves d s t n order plain still h =
+    let x = resolved_to d s t n order plain still h in
+    subst (ResolutionLeaves s n) (sym x.1) record { evaluations = refl; resolutions = refl }
 
-pub resolved_more : (until : ℕ) (d : Design) (n : ℕ) (event : Event) (turn : ℕ) (old s t : MachineState) → n < length d.nets → CanResolve d n event → ResolvedTimes until d n event turn old s → turn < count_at old.resolves n → step d s event ≡ Some t → IsStateOf d t → ResolvedTimes until d n event (turn + 1) old t
-resolved_more until d n (Assign a) turn old s t within can so_far h is fits = absurd can
-resolved_more until d n (Resolve m order) turn old s t within (same, net, here, in_order) so_far h is fits = record {
-  runs = subst (λ (es : List Event). run until d es old ≡ Some t) (replicate_more turn (Resolve m order)) (run_then until d (replicate turn (Resolve m order)) (Resolve m order ∷ []) old s t so_far.runs (run_step until d s t (Resolve m order) is));
+pub resolved_more : (until : ℕ) (d : Design) (n : ℕ) (event : Event) (turn : ℕ) (old s t : MachineState) → IsPlain d → n < length d.nets → CanResolve d n event → ResolvedTimes until d n event turn old s → turn < count_at old.resolutions n → step d s event ≡ Some t → IsStateOf d t → IsPlainState t → ResolvedTimes until d n event (turn + 1) old t
+resolved_more until d n (Stmt p) turn old s t plain within can so_far h is fits still = absurd can
+resolved_more until d n (Assign a) turn old s t plain within can so_far h is fits still = absurd can
+resolved_more until d n Update turn old s t plain within can so_far h is fits still = absurd can
+resolved_more until d n (Resolve m order) turn old s t plain within (same, net, here, in_order) so_far h is fits still = record {
+  runs = subst (λ (es : List Event). run until d es old ≡ Some t) (replicate_more turn (Resolve m order)) (run_then until d (replicate turn (Resolve m order)) (Resolve m order ∷ []) old s t so_far.runs (run_step until d s t (Resolve m order) so_far.plain is));
   fits = fits;
-  assigns = leaves.assigns ∙ so_far.assigns;
-  resolved = let one = at n ∙ less_same s.resolves n (omega (arith, within, so_far.fits.resolves)) in omega (arith, one, so_far.resolved, h);
-  others = λ k o. at k ∙ less_other s.resolves n k o ∙ so_far.others k o;
+  plain = still;
+  evaluations = leaves.evaluations ∙ so_far.evaluations;
+  resolved = let one = at n ∙ less_same s.resolutions n (omega (arith, within, so_far.fits.resolutions)) in omega (arith, one, so_far.resolved, h);
+  others = λ k o. at k ∙ less_other s.resolutions n k o ∙ so_far.others k o;
 }
   where
     leaves : ResolutionLeaves s n t
-    leaves = resolution_leaves d s t n order (subst (λ k. step d s (Resolve k order) ≡ Some t) same is)
+    leaves = resolution_leaves d s t n order plain so_far.plain (subst (λ k. step d s (Resolve k order) ≡ Some t) same is)
 
-    at : (k : ℕ) → count_at t.resolves k ≡ count_at (less s.resolves n) k
-    at k = ap (λ (l : List ℕ). count_at l k) leaves.resolves
+    at : (k : ℕ) → count_at t.resolutions k ≡ count_at (fewer 1 s.resolutions n) k
+    at k = ap (λ (l : List ℕ). count_at l k) leaves.resolutions
+
+both_ways : (a b : Bool) → b ≡ true → (a || (b && true)) ≡ true
+both_ways true b h = refl
+both_ways false true h = refl
+both_ways false false h = h
 
 -- a net that was resolved as often as it was pending is one entry more
-pub resolved_entry : (until : ℕ) (d : Design) (n count : ℕ) (event : Event) (old new : MachineState) (entries : List Entry) → n < length d.nets → count ≡ count_at old.resolves n → Resolved until d n entries old → ResolvedTimes until d n event count old new → Resolved until d (n + 1) (entries ++ record { event = event; count = count } ∷ []) new
-resolved_entry until d n count event old new entries within is so_far times = record {
-  leads = entry_added until d old new entries record { event = event; count = count } so_far.leads (omega (arith, is, so_far.left n (omega arith) within)) times.runs times.fits;
-  evaluated = λ k. ap (λ (l : List ℕ). count_at l k) times.assigns ∙ so_far.evaluated k;
+pub resolved_entry : (until : ℕ) (d : Design) (n count : ℕ) (event : Event) (old new : MachineState) (entries : List Entry) → n < length d.nets → CanResolve d n event → count ≡ count_at old.resolutions n → Resolved until d n entries old → ResolvedTimes until d n event count old new → Resolved until d (n + 1) (entries ++ record { event = event; count = count } ∷ []) new
+resolved_entry until d n count event old new entries within can is so_far times = record {
+  leads = entry_added until d old new entries record { event = event; count = count } so_far.leads (counted_entry event count (omega (arith, is, so_far.left n (omega arith) within)) can) times.runs times.fits times.plain;
+  evaluated = λ k. ap (λ (l : List ℕ). count_at l k) times.evaluations ∙ so_far.evaluated k;
   done = λ k h. elim (cases_eq k n) [
-    | inl same ↦ ap (λ i. count_at new.resolves i) same ∙ omega (arith, times.resolved, is)
+    | inl same ↦ ap (λ i. count_at new.resolutions i) same ∙ omega (arith, times.resolved, is)
     | inr other ↦ times.others k other ∙ so_far.done k (omega (arith, h, other))
   ];
   left = λ k past there. let other : k ≡ n → ⊥ = λ e. omega (arith, e, past) in let kept = times.others k other in omega (arith, kept, so_far.left k (omega (arith, past)) there);
   few = still_few until d n event count old new so_far.few times;
 }
+  where
+    either_count : (count : ℕ) → 1 ≤ count → (count == 1 || (nat_lt 1 count && true)) ≡ true
+    either_count zero h = absurd (omega (arith, h))
+    either_count (suc zero) h = refl
+    either_count (suc (suc k)) h = both_ways (suc (suc k) == 1) (nat_lt 1 (suc (suc k))) (lt-ltb 1 (suc (suc k)) (omega arith))
+
+    counted_entry : (event : Event) (count : ℕ) → 1 ≤ count → CanResolve d n event → is_entry d (record { event = event; count = count }) ≡ true
+    counted_entry (Stmt p) count h can = absurd can
+    counted_entry (Assign a) count h can = absurd can
+    counted_entry Update count h can = absurd can
+    counted_entry (Resolve m order) count h can = either_count count h
 
 range_more : (a n : ℕ) → range_with_len a (suc n) ≡ range_with_len a n ++ (a + n) ∷ []
 range_more a zero = ap (λ k. k ∷ []) (omega arith)
@@ -228,9 +261,9 @@ range_more a (suc n) =
 pub range_from_0 : (n : ℕ) → range_with_len 0 (suc n) ≡ range_with_len 0 n ++ n ∷ []
 range_from_0 n = range_more 0 n ∙ ap (λ k. range_with_len 0 n ++ k ∷ []) (omega arith)
 
-pub start_evaluated : (until : ℕ) (d : Design) → Evaluated until d 0 [] (start_state d)
-start_evaluated until d = record {
-  leads = start_leads until d (start_fits d);
+pub start_evaluated : (until : ℕ) (d : Design) → IsDesign d → IsPlain d → Evaluated until d 0 [] (start_state d)
+start_evaluated until d is plain = record {
+  leads = start_leads until d is plain;
   done = λ k h. absurd (omega (arith, h));
   left = λ k h l. get_or-replicate {A = ℕ} (length d.assigns) k 1 0 l;
   once = λ n l. let one = get_or-replicate {A = ℕ} (length d.nets) n 1 0 l in omega (arith, one);
@@ -252,10 +285,14 @@ none_left (x ∷ xs) h =
 pub nothing_left : (until : ℕ) (d : Design) (entries : List Entry) (s : MachineState) → Resolved until d (length d.nets) entries s → IsComplete until s
 unfolding is_active
 nothing_left until d entries s so_far =
-    ap is_active (settled until s) ∙ ap (λ b. b || list_any (nat_lt 0) s.resolves) (none_left s.assigns so_far.evaluated) ∙ none_left s.resolves none_resolves
+    ap is_active (settled until s so_far.leads.plain)
+    ∙ ap (λ places. list_any (is_pending_at s) places || (list_any (nat_lt 0) s.evaluations || (list_any (nat_lt 0) s.resolutions || is_some_put s.moved))) so_far.leads.plain.places
+    ∙ ap (λ b. b || (list_any (nat_lt 0) s.resolutions || is_some_put s.moved)) (none_left s.evaluations so_far.evaluated)
+    ∙ ap (λ b. b || is_some_put s.moved) (none_left s.resolutions none_resolves)
+    ∙ ap is_some_put so_far.leads.plain.moved
   where
-    none_resolves : (k : ℕ) → count_at s.resolves k ≡ 0
+    none_resolves : (k : ℕ) → count_at s.resolutions k ≡ 0
     none_resolves k = elim (lt_or_le k (length d.nets)) [
       | inl below ↦ so_far.done k below
-      | inr past ↦ get_or_past s.resolves k 0 (omega (arith, past, so_far.leads.fits.resolves))
+      | inr past ↦ get_or_past s.resolutions k 0 (omega (arith, past, so_far.leads.fits.resolutions))
     ]

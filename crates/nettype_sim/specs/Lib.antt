@@ -1,4 +1,5 @@
 pub mod Completeness
+pub mod Nets
 pub mod Outcomes
 pub mod Progress
 pub mod Runs

@@ -2,8 +2,8 @@
 use Rattle.std.specs.Prelude.{◌≡◌, ◌⊎◌, ℕ, ◌<◌, List, [], ◌++◌, length, take}
 use Rattle.nt_io.specs.Sinks.{SinkMeaning, Gained}
 use Rattle.nt_design.specs.declared.design.Design.{Design}
-use Rattle.nt_machine.specs.State.{MachineState}
-use Rattle.nt_machine.specs.Execution.{Execution, IsComplete, ended}
+use Rattle.nt_machine.specs.State.{MachineState, start_state}
+use Rattle.nt_machine.specs.Execution.{Execution, IsComplete, expansion, ended}
 use Rattle.nt_machine.specs.Texts.{witness_text, witness_head, witness_end, entry_line, entry_lines, trace_text}
 use Rattle.nt_machine.specs.declared.event.Entry.{Entry}
 use Rattle.nettype_sim.specs.Writes.{IsFront}
@@ -16,7 +16,7 @@ pub record Witnessed (until : ℕ) (d : Design) (witness trace : List ℕ) : Typ
   pub execution : Execution until d entries end_state
   pub complete : IsComplete until end_state
   pub witness_is : witness ≡ witness_text entries
-  pub trace_is : trace ≡ trace_text d until (ended until end_state)
+  pub trace_is : trace ≡ trace_text d until (ended until d (expansion entries) (start_state d)) end_state
 
 -- a front of a line, but not all of it
 abbrev pub IsLineFront : List ℕ → List ℕ → Type 0
@@ -39,7 +39,7 @@ pub record CutOff (until : ℕ) (d : Design) (witness trace : List ℕ) : Type 0
   pub reached : MachineState
   pub execution : Execution until d entries reached
   pub witness_is : IsCutWitness entries witness
-  pub trace_is : IsFront trace (trace_text d until (ended until reached))
+  pub trace_is : IsFront trace (trace_text d until (ended until d (expansion entries) (start_state d)) reached)
   pub ended_only : (trace ≡ []) ⊎ IsComplete until reached
 
 -- a run to its end: the sinks gained the texts of a complete execution

@@ -2,6 +2,7 @@
 ghost use Rattle.std.specs.Prelude.{◌≡◌, ◌≢◌, ◌⊎◌, [], List, ℕ, OnOk, IfErr, IfOk, IfSome, string_bytes, codes, ◌++◌};
 ghost use Rattle.nt_io.specs.Causes.{Rose};
 ghost use Rattle.nt_io.specs.Sinks.{Gained};
+ghost use Rattle.nt_design.specs.Plain.{IsPlain};
 ghost use Rattle.nt_design.specs.WellFormed.{IsDesign};
 ghost use Rattle.nt_small.specs.Grammar.{Source, Says};
 ghost use Rattle.nt_small.specs.Elaboration.{design_of};
@@ -66,7 +67,8 @@ fn run_named<O: Sink, W: Sink>(
     trace: &mut O,
     witness: &mut W,
 ) -> Result<(), Stop>
-    requires { IsDesign design.now }
+    requires design { IsDesign design.now }
+    requires plain { IsPlain design.now }
     ensures whole { OnOk result (RanDesign design.now (witness_path top.now) (O.meaning trace.old) (O.meaning trace.new) (W.meaning witness.old) (W.meaning witness.new)) }
     ensures part { IfErr result (λ _. StoppedDesign design.now (O.meaning trace.old) (O.meaning trace.new) (W.meaning witness.old) (W.meaning witness.new)) }
     ensures cause { result ≡ Err Stop.Write → WriteFailed (witness_path top.now) (O.meaning trace.old) (O.meaning trace.new) (W.meaning witness.old) (W.meaning witness.new) }

@@ -1,11 +1,13 @@
 // The run of a design: its events, and the texts of them.
-ghost use Rattle.std.specs.Prelude.{◌≡◌, ◌⊎◌, ◌∷◌, [], None, OnOk, IfErr, IfOk};
+ghost use Rattle.std.specs.Prelude.{◌≡◌, ◌⊎◌, ◌++◌, None, OnOk, IfErr, IfOk};
 ghost use Rattle.nt_io.specs.Causes.{Rose};
 ghost use Rattle.nt_io.specs.Sinks.{Gained};
+ghost use Rattle.nt_design.specs.Plain.{IsPlain};
 ghost use Rattle.nt_design.specs.WellFormed.{IsDesign};
-ghost use Rattle.nt_machine.specs.State.{IsStateOf};
+ghost use Rattle.nt_machine.specs.Plain.{IsPlainState};
+ghost use Rattle.nt_machine.specs.StateFits.{IsStateOf};
 ghost use Rattle.nt_machine.specs.Execution.{observation_of};
-ghost use Rattle.nt_machine.specs.Texts.{entry_lines, slot_text, end_text, trace_text};
+ghost use Rattle.nt_machine.specs.Texts.{entry_lines, slot_text, end_text};
 ghost use Rattle.nettype_sim.specs.Writes.{GainsFront, GainsPart, Opened};
 ghost use Rattle.nettype_sim.specs.Runs.{RunsWhole, RunsInPart};
 ghost use Rattle.nettype_sim.specs.Outcomes.{RanDesign, StoppedDesign, WriteFailed};
@@ -65,7 +67,9 @@ fn text_of_entries(alloc: Global, entries: &[Entry]) -> Result<Text, AllocError>
 
 fn text_of_slot(alloc: Global, design: &Design, state: &State) -> Result<Text, AllocError>
     requires design { IsDesign design.now }
+    requires plain_design { IsPlain design.now }
     requires state { IsStateOf design.now state.now }
+    requires plain { IsPlainState state.now }
     ensures { IfOk result (λ text. text ≡ slot_text design.now None (observation_of state.now)) }
 {
     let mut text = Text::new(Vec::new(alloc));
@@ -103,9 +107,11 @@ fn write_trace<O: Sink>(
     trace: &mut O,
 ) -> Result<(), Stop>
     requires design { IsDesign design.now }
+    requires plain_design { IsPlain design.now }
     requires state { IsStateOf design.now state.now }
-    ensures all { OnOk result (Gained (O.meaning trace.old) (O.meaning trace.new) (trace_text design.now 0 (observation_of state.now ∷ []))) }
-    ensures part { IfErr result (λ _. GainsPart (O.meaning trace.old) (O.meaning trace.new) (trace_text design.now 0 (observation_of state.now ∷ []))) }
+    requires plain { IsPlainState state.now }
+    ensures all { OnOk result (Gained (O.meaning trace.old) (O.meaning trace.new) (slot_text design.now None (observation_of state.now) ++ end_text 0)) }
+    ensures part { IfErr result (λ _. GainsPart (O.meaning trace.old) (O.meaning trace.new) (slot_text design.now None (observation_of state.now) ++ end_text 0)) }
     ensures cause { result ≡ Err Stop.Write → Rose (O.meaning trace.old).faults (O.meaning trace.new).faults }
 {
     let slot = text_of_slot(alloc, design, state)?;
@@ -122,7 +128,8 @@ fn write_run<O: Sink, W: Sink>(
     trace: &mut O,
     witness: &mut W,
 ) -> Result<(), Stop>
-    requires { IsDesign design.now }
+    requires design { IsDesign design.now }
+    requires plain_design { IsPlain design.now }
     ensures whole { OnOk result (RunsWhole 0 design.now (O.meaning trace.old) (O.meaning trace.new) (W.meaning witness.old) (W.meaning witness.new)) }
     ensures part { IfErr result (λ _. RunsInPart 0 design.now (O.meaning trace.old) (O.meaning trace.new) (W.meaning witness.old) (W.meaning witness.new)) }
     ensures cause { result ≡ Err Stop.Write → Rose (O.meaning trace.old).faults (O.meaning trace.new).faults
@@ -161,7 +168,8 @@ pub fn run_design<O: Sink, W: Sink>(
     trace: &mut O,
     witness: &mut W,
 ) -> Result<(), Stop>
-    requires { IsDesign design.now }
+    requires design { IsDesign design.now }
+    requires plain_design { IsPlain design.now }
     ensures whole { OnOk result (RanDesign design.now path.now (O.meaning trace.old) (O.meaning trace.new) (W.meaning witness.old) (W.meaning witness.new)) }
     ensures part { IfErr result (λ _. StoppedDesign design.now (O.meaning trace.old) (O.meaning trace.new) (W.meaning witness.old) (W.meaning witness.new)) }
     ensures cause { result ≡ Err Stop.Write → WriteFailed path.now (O.meaning trace.old) (O.meaning trace.new) (W.meaning witness.old) (W.meaning witness.new) }

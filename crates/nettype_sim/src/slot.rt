@@ -1,8 +1,11 @@
 // The run of time slot 0: each assignment is evaluated, and then each net resolved.
 ghost use Rattle.std.specs.Prelude.{◌≡◌, ◌+◌, ◌≤◌, ◌<◌, ◌^◌, length, slice_get, Some, OnOk, IfOk};
 ghost use Rattle.std.specs.List.{range_with_len};
+ghost use Rattle.nt_design.specs.Plain.{IsPlain};
 ghost use Rattle.nt_design.specs.WellFormed.{IsDesign};
-ghost use Rattle.nt_machine.specs.State.{IsStateOf, AtMost, count_at};
+ghost use Rattle.nt_machine.specs.Plain.{IsPlainState};
+ghost use Rattle.nt_machine.specs.State.{count_at};
+ghost use Rattle.nt_machine.specs.StateFits.{IsStateOf, AtMost};
 ghost use Rattle.nt_machine.specs.Execution.{Execution, IsComplete};
 ghost use Rattle.nettype_sim.specs.Progress.{Evaluated, Resolved, CanResolve, ResolvedTimes};
 
@@ -20,6 +23,7 @@ fn evaluate_one(
     assign: u32,
 ) -> Result<(), AllocError>
     requires design { IsDesign design.now }
+    requires plain_design { IsPlain design.now }
     requires within { assign < length design.now.assigns }
     requires so_far { Evaluated 0 design.now assign entries.old state.old }
     ensures { OnOk result (Evaluated 0 design.now (assign + 1) entries.new state.new) }
@@ -37,6 +41,7 @@ fn evaluate_all(
     entries: &mut Items<Entry>,
 ) -> Result<(), AllocError>
     requires design { IsDesign design.now }
+    requires plain_design { IsPlain design.now }
     requires so_far { Evaluated 0 design.now 0 entries.old state.old }
     ensures { OnOk result (Evaluated 0 design.now (length design.now.assigns) entries.new state.new) }
 {
@@ -57,11 +62,13 @@ fn resolve_times(
     count: u64,
 ) -> Result<(), AllocError>
     requires design { IsDesign design.now }
+    requires plain_design { IsPlain design.now }
     requires state { IsStateOf design.now state.old }
+    requires plain { IsPlainState state.old }
     requires few { AtMost (2 ^ 20) state.old }
     requires event { CanResolve design.now net event.now }
     requires within { net < length design.now.nets }
-    requires count { count_at state.old.resolves net ≡ count }
+    requires count { count_at state.old.resolutions net ≡ count }
     ensures { OnOk result (ResolvedTimes 0 design.now net event.now count state.old state.new) }
 {
     for turn in 0..count {
@@ -85,7 +92,7 @@ fn declared_order(alloc: Global, count: usize) -> Result<Order, AllocError>
 // How often the net of a resolution is to be resolved.
 fn pending_resolutions(design: &Design, state: &State, event: &Event, net: u32) -> u64
     requires { CanResolve design.now net event.now }
-    ensures { result ≡ count_at state.now.resolves net }
+    ensures { result ≡ count_at state.now.resolutions net }
 {
     state.count(event)
 }
@@ -100,6 +107,7 @@ fn net_at(design: &Design, net: u32) -> &Net
 // The resolution of a net with its slots in ascending order.
 fn resolution_of(alloc: Global, design: &Design, net: u32) -> Result<Event, AllocError>
     requires design { IsDesign design.now }
+    requires plain_design { IsPlain design.now }
     requires within { net < length design.now.nets }
     ensures { IfOk result (λ event. CanResolve design.now net event) }
 {
@@ -116,6 +124,7 @@ fn resolve_one(
     net: u32,
 ) -> Result<(), AllocError>
     requires design { IsDesign design.now }
+    requires plain_design { IsPlain design.now }
     requires within { net < length design.now.nets }
     requires so_far { Resolved 0 design.now net entries.old state.old }
     ensures { OnOk result (Resolved 0 design.now (net + 1) entries.new state.new) }
@@ -134,6 +143,7 @@ fn resolve_all(
     entries: &mut Items<Entry>,
 ) -> Result<(), AllocError>
     requires design { IsDesign design.now }
+    requires plain_design { IsPlain design.now }
     requires so_far { Resolved 0 design.now 0 entries.old state.old }
     ensures { OnOk result (Resolved 0 design.now (length design.now.nets) entries.new state.new) }
 {
@@ -151,10 +161,12 @@ fn resolve_all(
 ///
 /// Where memory is refused.
 pub fn run_slot(alloc: Global, design: &Design) -> Result<(Items<Entry>, State), AllocError>
-    requires { IsDesign design.now }
+    requires design { IsDesign design.now }
+    requires plain_design { IsPlain design.now }
     ensures execution { IfOk result (λ r. Execution 0 design.now r.0 r.1) }
     ensures complete { IfOk result (λ r. IsComplete 0 r.1) }
     ensures state { IfOk result (λ r. IsStateOf design.now r.1) }
+    ensures plain { IfOk result (λ r. IsPlainState r.1) }
 {
     let mut state = start(alloc, design)?;
     let mut entries = Items::new(alloc);

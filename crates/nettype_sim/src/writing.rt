@@ -1,9 +1,13 @@
 // The texts of entries and of a slot.
 ghost use Rattle.std.specs.Prelude.{◌≡◌, ◌++◌, ◌∷◌, [], ◌<◌, OnOk, IfOk, length, None, decimal, codes};
+ghost use Rattle.nt_design.specs.Plain.{IsPlain};
 ghost use Rattle.nt_design.specs.WellFormed.{IsDesign};
-ghost use Rattle.nt_machine.specs.State.{IsStateOf};
+ghost use Rattle.nt_machine.specs.Plain.{IsPlainState};
+ghost use Rattle.nt_machine.specs.StateFits.{IsStateOf};
 ghost use Rattle.nt_machine.specs.Execution.{observation_of};
-ghost use Rattle.nt_machine.specs.Texts.{order_text, event_line, entry_lines, net_line, net_lines, slot_text, end_text};
+ghost use Rattle.nt_machine.specs.Texts.{order_text, event_line, entry_lines, slot_text, end_text};
+ghost use Rattle.nt_value.specs.Texts.{value_text};
+ghost use Rattle.nettype_sim.specs.Nets.{net_lines};
 
 use nt_design::{Design, Net};
 use nt_machine::{Entry, Event, State};
@@ -44,10 +48,21 @@ fn print_resolution(net: u32, count: u64, order: &[u32], out: &mut Text) -> Resu
     Ok(())
 }
 
+fn print_statement(proc: u32, out: &mut Text) -> Result<(), AllocError>
+    ensures { OnOk result (out.new ≡ out.old ++ (codes "s " ++ (decimal proc ++ (10 ∷ [])))) }
+{
+    out.push_bytes(b"s ")?;
+    out.push_number(u64::from(proc))?;
+    out.push(b'\n')?;
+    Ok(())
+}
+
 fn print_event(event: &Event, count: u64, out: &mut Text) -> Result<(), AllocError>
     ensures { OnOk result (out.new ≡ out.old ++ event_line event.now count) }
 {
     match event {
+        Event::Stmt { proc } => print_statement(*proc, out),
+        Event::Update => out.push_bytes(b"u\n"),
         Event::Assign { assign } => print_evaluation(*assign, count, out),
         Event::Resolve { net, order } => print_resolution(*net, count, order.items(), out),
     }
@@ -64,7 +79,7 @@ pub fn print_entries(entries: &[Entry], out: &mut Text) -> Result<(), AllocError
 }
 
 fn print_net(net: &Net, value: &Value, out: &mut Text) -> Result<(), AllocError>
-    ensures { OnOk result (out.new ≡ out.old ++ net_line net.now value.now) }
+    ensures { OnOk result (out.new ≡ out.old ++ (net.now.name ++ (codes " = " ++ (value_text value.now ++ (10 ∷ []))))) }
 {
     out.push_bytes(net.name.items())?;
     out.push_bytes(b" = ")?;
@@ -75,8 +90,10 @@ fn print_net(net: &Net, value: &Value, out: &mut Text) -> Result<(), AllocError>
 
 fn print_nets(design: &Design, state: &State, out: &mut Text) -> Result<(), AllocError>
     requires design { IsDesign design.now }
+    requires plain_design { IsPlain design.now }
     requires state { IsStateOf design.now state.now }
-    ensures { OnOk result (out.new ≡ out.old ++ net_lines design.now.nets state.now.nets) }
+    requires plain { IsPlainState state.now }
+    ensures { OnOk result (out.new ≡ out.old ++ net_lines design.now (observation_of state.now) (length design.now.nets)) }
 {
     for (index, net) in design.nets.as_slice().iter().enumerate() {
         print_net(net, state.net(index as u32), out)?;
@@ -84,16 +101,26 @@ fn print_nets(design: &Design, state: &State, out: &mut Text) -> Result<(), Allo
     Ok(())
 }
 
+fn print_moment(time: u64, out: &mut Text) -> Result<(), AllocError>
+    ensures { OnOk result (out.new ≡ out.old ++ (35 ∷ (decimal time ++ (10 ∷ [])))) }
+{
+    out.push(b'#')?;
+    out.push_number(time)?;
+    out.push(b'\n')?;
+    Ok(())
+}
+
 /// Adds the first slot, with all nets.
 pub fn print_slot(design: &Design, state: &State, out: &mut Text) -> Result<(), AllocError>
     requires design { IsDesign design.now }
+    requires plain_design { IsPlain design.now }
     requires state { IsStateOf design.now state.now }
+    requires plain { IsPlainState state.now }
     ensures { OnOk result (out.new ≡ out.old ++ slot_text design.now None (observation_of state.now)) }
 {
-    out.push(b'#')?;
-    out.push_number(state.time())?;
-    out.push(b'\n')?;
-    print_nets(design, state, out)
+    print_moment(state.time(), out)?;
+    print_nets(design, state, out)?;
+    Ok(())
 }
 
 /// Adds the end of a run to this time limit.

@@ -1,48 +1,25 @@
-// Nets, their drivers, and the design of both.
-use crate::Tree;
-use nt_value::{Name, Shape, Unit};
+// The design.
+use crate::{Assign, Function, Net, Object, Proc, Var};
+use nt_value::{Name, Unit};
 use sqlite_items::Items;
 
-/// How a net forms its value from those of its drivers.
-#[derive(Clone, Copy, Debug, PartialEq, Eq)]
-pub enum NetKind {
-    /// A nettype without a resolution function: a net of it has at most one driver and takes its value (6.6.7).
-    Unresolved,
-}
-
-/// A net: its path, the leaves of its data type, its kind, and its slots. A slot holds the value of one driver and is
-/// listed by the number of the assignment that drives it.
+/// A scope, or a name in one with its object: a line of the list in which scopes and names stand as a tree, by depth.
 #[derive(Debug, Drop)]
-pub struct Net {
+pub struct Scoped {
+    pub depth: u32,
     pub name: Name,
-    pub shape: Shape,
-    pub kind: NetKind,
-    pub slots: Items<u32>,
+    pub object: Option<Object>,
 }
 
-/// What an assignment writes.
-#[derive(Clone, Copy, Debug, PartialEq, Eq)]
-pub enum Target {
-    /// A slot of a net: `width` digits from `low` on, or the whole net where both are 0.
-    Slot {
-        net: u32,
-        slot: u32,
-        low: u8,
-        width: u8,
-    },
-}
-
-/// A continuous assignment (10.3): the value of `right` drives the target.
-#[derive(Debug, Drop)]
-pub struct Assign {
-    pub target: Target,
-    pub right: Tree,
-}
-
-/// An elaborated design. Nets and assignments are numbered from 0 in the order of these lists.
-#[derive(Debug, Drop)]
+/// An elaborated design. Nets, variables, procedures, assignments and functions are numbered from 0 in the order of
+/// these lists.
+#[derive(Drop)]
 pub struct Design {
     pub nets: Items<Net>,
+    pub vars: Items<Var>,
+    pub procs: Items<Proc>,
     pub assigns: Items<Assign>,
+    pub functions: Items<Function>,
+    pub scopes: Items<Scoped>,
     pub unit: Unit,
 }

@@ -2,10 +2,29 @@
 //! trees.
 #![tactic(auto)]
 
+mod act;
+mod copies;
+mod copies_of_acts;
 mod design;
+mod env;
+mod function;
+mod laws;
+mod object;
+mod process;
+mod target;
 #[cfg(test)]
 mod tests;
 mod tree;
 
-pub use design::{Assign, Design, Net, NetKind, Target};
-pub use tree::{Env, Stop, Tree, meaning};
+pub use act::{Act, Flow};
+pub use copies::copy_tree;
+pub use copies_of_acts::{copy_act, copy_target, copy_trees};
+pub use design::{Design, Scoped};
+pub use env::{Env, Stop, meaning};
+pub use function::Function;
+pub use laws::{reads_decide, values_fit};
+pub use nt_value::{Edge, ProcKind};
+pub use object::{Net, NetKind, Object, Var};
+pub use process::{Assign, Proc};
+pub use target::{Pick, Target};
+pub use tree::Tree;

@@ -1,47 +1,80 @@
-// Typed trees and their values.
-ghost use Rattle.std.specs.Prelude.{◌≡◌, IfOk, Some, None};
-ghost use Rattle.nt_design.specs.Meaning.{value_of};
-ghost use Rattle.nt_design.specs.WellFormed.{IsEnvOf};
+// Typed expressions.
+use crate::Object;
+use nt_value::{Binary, Leaf, Unary, Value};
+use sqlite_items::{Boxed, Items};
 
-use crate::Design;
-use nt_value::{Value, copy};
-use sqlite_items::Items;
-use std::alloc::{AllocError, Global};
-
-/// A typed expression.
-#[derive(Debug, Drop)]
+/// A typed expression (IEEE 1800-2017, clause 11). Widths and signs are settled: where the standard extends or cuts an
+/// operand, a `Resize` stands.
+#[derive(Drop)]
 pub enum Tree {
     /// A constant.
     Const(Value),
-}
-
-/// What a tree may read: the moment, in units of the design's time unit, and the value of each net.
-#[derive(Debug, Drop)]
-pub struct Env {
-    pub time: u64,
-    pub nets: Items<Value>,
-}
-
-/// Why a tree has no value.
-#[derive(Debug, Drop)]
-pub enum Stop {
-    /// Its evaluation takes more turns of functions than an event may have.
-    TooLong,
-    /// Memory was refused.
-    OutOfMemory(AllocError),
-}
-
-/// The value of a tree in an environment of its design.
-///
-/// # Errors
-///
-/// `TooLong` exactly where the tree has no value. `OutOfMemory` where memory is refused.
-pub fn meaning(alloc: Global, design: &Design, tree: &Tree, env: &Env) -> Result<Value, Stop>
-    requires fits { IsEnvOf design.now env.now }
-    ensures value { IfOk result (λ value. value_of env.now tree.now ≡ Some value) }
-    ensures too_long { result ≡ Err Stop.TooLong → value_of env.now tree.now ≡ None }
-{
-    match tree {
-        Tree::Const(value) => copy(alloc, value).map_err(Stop::OutOfMemory),
-    }
+    /// The value of a net or a variable.
+    Read(Object),
+    /// A local of the function or procedure, by its number.
+    Local(u32),
+    /// The `count` leaves from `first` on, as a member of a structure has them (7.2).
+    Leaves {
+        of: Boxed<Tree>,
+        first: u8,
+        count: u8,
+    },
+    /// An element of an unpacked array of `size` elements, whose least index is `low` (7.4.6). With `up` the leftmost
+    /// element has the least index, else the greatest.
+    Item {
+        of: Boxed<Tree>,
+        index: Boxed<Tree>,
+        low: u32,
+        size: u32,
+        up: bool,
+    },
+    /// An element of a resolver's argument, counted from 0.
+    Element {
+        index: Boxed<Tree>,
+    },
+    /// `width` digits of one leaf, from the digit `low` on, counted from the least significant one as 0 (11.5.1).
+    Part {
+        of: Boxed<Tree>,
+        low: Boxed<Tree>,
+        width: u8,
+    },
+    /// An operator of one operand.
+    Unary {
+        op: Unary,
+        of: Boxed<Tree>,
+    },
+    /// An operator of two operands.
+    Binary {
+        op: Binary,
+        left: Boxed<Tree>,
+        right: Boxed<Tree>,
+    },
+    /// `?:` (11.4.11).
+    Choose {
+        test: Boxed<Tree>,
+        yes: Boxed<Tree>,
+        no: Boxed<Tree>,
+    },
+    /// A concatenation of leaves into one, the first above (11.4.12).
+    Concat {
+        parts: Items<Tree>,
+    },
+    /// The leaves of several values, one after the other: a structure or an array of its items (10.9).
+    Gather {
+        parts: Items<Tree>,
+    },
+    /// One leaf as another: its low digits, or more by the new leaf's sign (10.7, 11.8.2).
+    Resize {
+        of: Boxed<Tree>,
+        to: Leaf,
+    },
+    /// A call of a function (13.4).
+    Call {
+        function: u32,
+        args: Items<Tree>,
+    },
+    /// How many elements a resolver's argument has, an `int` (7.5.2).
+    Size,
+    /// `$time`: the moment, a `time` (20.3.1).
+    Time,
 }

@@ -7,7 +7,8 @@ use Rattle.std.proofs.lemmas.Bool.Decides.{eqb_tells}
 use Rattle.std.proofs.lemmas.List.FromFn.{length-range_with_len}
 use Rattle.std.proofs.lemmas.List.Sums.{sum_by-cons}
 use Rattle.std.proofs.lemmas.List.Sorted.{IsPermutation-refl, IsPermutation-sym, IsPermutation-cons, IsPermutation-trans, IsPermutation-to_front, IsPermutation-middle, length_permutation, sum_by-IsPermutation}
-use Rattle.nt_machine.specs.Step.{has, is_distinct, all_below, is_order}
+use Rattle.nt_machine.specs.Step.{is_distinct, all_below, is_order}
+use Rattle.nt_machine.specs.Same.{is_listed}
 use Rattle.nt_machine.specs.Laws.{OrdersArePermutations}
 
 abbrev hit : ℕ → ℕ → ℕ
@@ -27,25 +28,25 @@ hit_other : (k x : ℕ) → (k == x) ≡ false → hit k x ≡ 0
 hit_other k x e = ap (λ (b : Bool). if b then 1 else 0) e
 
 -- the tests, by counts
-count_none : (k : ℕ) (xs : List ℕ) → has k xs ≡ false → count k xs ≡ 0
+count_none : (k : ℕ) (xs : List ℕ) → is_listed k xs ≡ false → count k xs ≡ 0
 count_none k [] h = refl
 count_none k (x ∷ xs) h =
-    let p = or_parts (k == x) (has k xs) h in
+    let p = or_parts (k == x) (is_listed k xs) h in
     omega (arith, count_cons k x xs, hit_other k x p.0, count_none k xs p.1)
 
-has_none : (k : ℕ) (xs : List ℕ) → count k xs ≡ 0 → has k xs ≡ false
+has_none : (k : ℕ) (xs : List ℕ) → count k xs ≡ 0 → is_listed k xs ≡ false
 has_none k [] h = refl
 has_none k (x ∷ xs) h = elim (eqb_tells k x) [
   | inl p ↦ absurd (omega (arith, count_cons k x xs, h, hit_same k x p.1))
-  | inr p ↦ or_from (k == x) (has k xs) p.0 (has_none k xs (omega (arith, count_cons k x xs, hit_other k x p.0, h)))
+  | inr p ↦ or_from (k == x) (is_listed k xs) p.0 (has_none k xs (omega (arith, count_cons k x xs, hit_other k x p.0, h)))
 ]
 
 distinct_counts : (xs : List ℕ) → is_distinct xs ≡ true → (k : ℕ) → count k xs ≤ 1
 distinct_counts [] h k = omega arith
 distinct_counts (x ∷ xs) h k =
-    let p = and_parts (not (has x xs)) (is_distinct xs) h in
+    let p = and_parts (not (is_listed x xs)) (is_distinct xs) h in
     elim (eqb_tells k x) [
-      | inl q ↦ let none : count k xs ≡ 0 = ap (λ j. count j xs) q.1 ∙ count_none x xs (not-true (has x xs) p.0) in
+      | inl q ↦ let none : count k xs ≡ 0 = ap (λ j. count j xs) q.1 ∙ count_none x xs (not-true (is_listed x xs) p.0) in
           omega (arith, count_cons k x xs, hit_same k x q.1, none)
       | inr q ↦ omega (arith, count_cons k x xs, hit_other k x q.0, distinct_counts xs p.1 k)
     ]
@@ -54,7 +55,7 @@ counts_distinct : (xs : List ℕ) → ((k : ℕ) → count k xs ≤ 1) → is_di
 counts_distinct [] h = refl
 counts_distinct (x ∷ xs) h =
     let none : count x xs ≡ 0 = omega (arith, count_cons x x xs, h x, hit_same x x refl) in
-    and_from (not (has x xs)) (is_distinct xs) (ap (λ (b : Bool). not b) (has_none x xs none)) (counts_distinct xs (λ k. omega (arith, count_cons k x xs, h k)))
+    and_from (not (is_listed x xs)) (is_distinct xs) (ap (λ (b : Bool). not b) (has_none x xs none)) (counts_distinct xs (λ k. omega (arith, count_cons k x xs, h k)))
 
 below_counts : (n : ℕ) (xs : List ℕ) → all_below n xs ≡ true → (k : ℕ) → n ≤ k → count k xs ≡ 0
 below_counts n [] h k high = refl
@@ -136,7 +137,7 @@ shuffled (suc n) xs long distinct below = elim (cases_lt (count n xs) 1) [
       subst (λ (l : List ℕ). IsPermutation l xs) (sym (range_last n)) (IsPermutation-trans (range_with_len 0 n ++ n ∷ []) (n ∷ range_with_len 0 n) xs (IsPermutation-to_front (range_with_len 0 n) n) (IsPermutation-trans (n ∷ range_with_len 0 n) (n ∷ f.0) xs (IsPermutation-cons n (range_with_len 0 n) f.0 inner) (IsPermutation-sym xs (n ∷ f.0) f.1)))
 ]
 
--- a range has each of its numbers once
+-- a range is_listed each of its numbers once
 range_low : (a n k : ℕ) → k < a → count k (range_with_len a n) ≡ 0
 range_low a zero k low = refl
 range_low a (suc n) k low = elim (eqb_tells k a) [

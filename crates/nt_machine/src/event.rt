@@ -33,11 +33,15 @@ impl Order {
     }
 }
 
-/// One event of the Active region (4.5).
+/// One event of the Active region (IEEE 1800-2017, 4.4.2.2, 4.5).
 #[derive(Debug, Drop)]
 pub enum Event {
+    /// One statement step of a procedure (9.2).
+    Stmt { proc: u32 },
     /// One evaluation of a continuous assignment, with its write (4.9.1).
     Assign { assign: u32 },
+    /// The first of the nonblocking updates that were moved to Active (4.9.4).
+    Update,
     /// One resolution of a net, with its slots in an order, and its publication (6.6.7).
     Resolve { net: u32, order: Order },
 }

@@ -1,16 +1,23 @@
-//! The machine of clause 4: states, events, what one event does, and the start. What a whole execution is stands in
-//! specs/, apart from this code.
+//! The machine of clause 4: states, events, what one event does, whole executions, and rounds, in specs/. The code keeps a
+//! state of a design of nets and constants.
 #![tactic(auto)]
 
+mod deed;
 mod event;
 mod laws;
+mod moved;
 mod order;
 mod state;
 mod step;
 #[cfg(test)]
 mod tests;
 
+pub use deed::{Deed, Put};
 pub use event::{Entry, Event, Order};
-pub use laws::{again_changes_nothing, orders_are_permutations};
-pub use state::{Moved, State, advance, start};
+pub use laws::{
+    again_changes_nothing, move_fills, move_keeps, move_stays, only_pending,
+    orders_are_permutations, round_leads, start_fits,
+};
+pub use moved::Moved;
+pub use state::{State, advance, start};
 pub use step::{allowed, apply, pending};

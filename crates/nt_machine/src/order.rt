@@ -1,9 +1,10 @@
 // Orders of slots.
 ghost use Rattle.std.specs.Prelude.{◌≡◌, length};
-ghost use Rattle.nt_machine.specs.Step.{has, is_distinct, all_below, is_order};
+ghost use Rattle.nt_machine.specs.Same.{is_listed};
+ghost use Rattle.nt_machine.specs.Step.{is_distinct, all_below, is_order};
 
 fn has(number: u32, numbers: &[u32]) -> bool
-    ensures { result ≡ has number numbers.now }
+    ensures { result ≡ is_listed number numbers.now }
 {
     for other in numbers {
         if number == *other {

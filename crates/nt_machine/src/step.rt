@@ -1,16 +1,18 @@
 // What one event does.
-ghost use Rattle.std.specs.Prelude.{◌≡◌, ◌<◌, ◌≤◌, ◌^◌, ◌↔◌, ℕ, Some, None, length, slice_get, true, IfOk, OnOk, IsTrue, IsSome, MatchOption};
-ghost use Rattle.nt_design.specs.WellFormed.{IsDesign, IsEnvOf, net_of};
-ghost use Rattle.nt_design.specs.Meaning.{value_of};
-ghost use Rattle.nt_design.specs.declared.design.Net.{Net};
-ghost use Rattle.nt_machine.specs.Same.{same_value};
-ghost use Rattle.nt_machine.specs.State.{MachineState, IsStateOf, AtMost, more, less, count_at, copies_of};
-ghost use Rattle.nt_machine.specs.Step.{step, is_pending, is_order, is_order_of, net_value, values_in_order, driven, published};
+ghost use Rattle.std.specs.Prelude.{◌≡◌, ◌<◌, ◌≤◌, ◌^◌, ◌↔◌, ℕ, Some, None, length, slice_get, true, IfOk, OnOk, IsTrue, IsSome};
+ghost use Rattle.nt_design.specs.WellFormed.{IsDesign};
+ghost use Rattle.nt_design.specs.declared.object.NetKind.TheVariants.{Unresolved};
+ghost use Rattle.nt_design.specs.Plain.{IsPlain};
+ghost use Rattle.nt_machine.specs.Plain.{IsPlainState, driven_plain, published_plain};
+ghost use Rattle.nt_machine.specs.Same.{is_same};
+ghost use Rattle.nt_machine.specs.State.{more, fewer, count_at};
+ghost use Rattle.nt_machine.specs.StateFits.{IsStateOf, AtMost};
+ghost use Rattle.nt_machine.specs.Step.{step, is_pending, is_order, is_order_of, net_value, in_order};
 
 use crate::order::names_each_slot;
 use crate::state::{count_of, net_at, target_net};
 use crate::{Event, State};
-use nt_design::{Assign, Design, Env, Net, NetKind, Stop, Target, Tree, meaning};
+use nt_design::{Assign, Design, Net, NetKind, Stop, meaning};
 use nt_value::{Value, copy, default_of, same};
 use sqlite_items::Items;
 use std::alloc::{AllocError, Global};
@@ -28,29 +30,32 @@ fn is_order_of(design: &Design, net: u32, order: &[u32]) -> bool
 fn is_evaluation_pending(design: &Design, state: &State, assign: u32) -> bool
     ensures { result ≡ is_pending design.now state.now (Event.Assign assign) }
 {
-    count_of(state.assigns.as_slice(), assign) > 0 && (assign as usize) < design.assigns.len()
+    count_of(state.evaluations.as_slice(), assign) > 0 && (assign as usize) < design.assigns.len()
 }
 
 #[tactic(auto, unfolding(crate::specs::Step::is_pending))]
 fn is_resolution_pending(design: &Design, state: &State, net: u32, order: &[u32]) -> bool
     ensures { result ≡ is_pending design.now state.now (Event.Resolve net order.now) }
 {
-    count_of(state.resolves.as_slice(), net) > 0 && is_order_of(design, net, order)
+    count_of(state.resolutions.as_slice(), net) > 0 && is_order_of(design, net, order)
 }
 
 /// Whether the event is in Active and the order of a resolution is one of its net's slots. It takes no memory.
+#[tactic(auto, unfolding(crate::specs::Step::is_pending))]
 pub fn pending(design: &Design, state: &State, event: &Event) -> bool
     requires state { IsStateOf design.now state.now }
+    requires plain { IsPlainState state.now }
     ensures { result ≡ is_pending design.now state.now event.now }
 {
     match event {
         Event::Assign { assign } => is_evaluation_pending(design, state, *assign),
         Event::Resolve { net, order } => is_resolution_pending(design, state, *net, order.items()),
+        Event::Stmt { .. } | Event::Update => false,
     }
 }
 
 fn is_same(a: &Value, b: &Value) -> bool
-    ensures { result ≡ same_value a.now b.now }
+    ensures { result ≡ is_same a.now b.now }
 {
     same(a, b)
 }
@@ -66,38 +71,38 @@ fn add_one(counts: &mut Items<u64>, at: u32)
 
 fn take_one(counts: &mut Items<u64>, at: u32)
     requires within { at < length counts.old }
-    ensures { counts.new ≡ less counts.old at }
+    ensures { counts.new ≡ fewer 1 counts.old at }
 {
     let count = counts.as_slice()[at as usize];
     counts.set(at as usize, count.saturating_sub(1));
 }
 
 impl State {
-    // An assignment's value goes to its slot.
-    fn drive(&mut self, assign: u32, target: Target, value: Value)
+    // An assignment's value goes to its slot, the slot of this net.
+    fn drive(&mut self, assign: u32, net: u32, value: Value)
         requires slot { assign < length self.old.slots }
-        requires assign { assign < length self.old.assigns }
-        requires net { net_of target < length self.old.resolves }
-        requires few { count_at self.old.resolves (net_of target) < 2 ^ 63 }
-        ensures { self.new ≡ driven self.old assign target value }
+        requires assign { assign < length self.old.evaluations }
+        requires net { net < length self.old.resolutions }
+        requires few { count_at self.old.resolutions net < 2 ^ 63 }
+        ensures { self.new ≡ driven_plain self.old assign net value }
     {
         let at = assign as usize;
         let same = is_same(&self.slots.as_slice()[at], &value);
         self.slots.set(at, value);
-        take_one(&mut self.assigns, assign);
+        take_one(&mut self.evaluations, assign);
         if !same {
-            add_one(&mut self.resolves, target_net(target));
+            add_one(&mut self.resolutions, net);
         }
     }
 
     // A net takes the value of its resolution.
     fn publish(&mut self, net: u32, value: Value)
         requires net { net < length self.old.nets }
-        requires count { net < length self.old.resolves }
-        ensures { self.new ≡ published self.old net value }
+        requires count { net < length self.old.resolutions }
+        ensures { self.new ≡ published_plain self.old net value }
     {
         self.env.nets.set(net as usize, value);
-        take_one(&mut self.resolves, net);
+        take_one(&mut self.resolutions, net);
     }
 }
 
@@ -115,11 +120,14 @@ fn evaluate(
     assign: u32,
 ) -> Result<(), AllocError>
     requires design { IsDesign design.now }
+    requires plain_design { IsPlain design.now }
     requires state { IsStateOf design.now state.old }
+    requires plain { IsPlainState state.old }
     requires allowed { IsSome (step design.now state.old (Event.Assign assign)) }
     requires few { AtMost (2 ^ 62) state.old }
     ensures step { OnOk result (step design.now state.old (Event.Assign assign) ≡ Some state.new) }
     ensures state { OnOk result (IsStateOf design.now state.new) }
+    ensures plain { OnOk result (IsPlainState state.new) }
 {
     let driver = assign_at(design, assign);
     let value = match meaning(alloc, design, &driver.right, &state.env) {
@@ -127,7 +135,7 @@ fn evaluate(
         Err(Stop::TooLong) => unreachable!(),
         Err(Stop::OutOfMemory(refused)) => return Err(refused),
     };
-    state.drive(assign, driver.target, value);
+    state.drive(assign, target_net(&driver.target), value);
     Ok(())
 }
 
@@ -147,18 +155,17 @@ fn slot_at(state: &State, assign: u32) -> &Value
 
 // The value of a net from its slots in an order.
 fn resolution(alloc: Global, state: &State, net: &Net, order: &[u32]) -> Result<Value, AllocError>
+    requires kind { net.now.kind ≡ Unresolved }
     requires driven { (slot a : ℕ) → slice_get net.now.slots slot ≡ Some a → a < length state.now.slots }
     requires order { is_order (length net.now.slots) order.now ≡ true }
-    ensures { IfOk result (λ value. net_value net.now.kind net.now.shape (values_in_order state.now.slots net.now.slots order.now) ≡ Some value) }
+    ensures { IfOk result (λ value. (d : Design) → net_value d net.now.kind net.now.shape (in_order state.now.slots net.now.slots order.now) ≡ Some value) }
 {
-    match net.kind {
-        NetKind::Unresolved => match order {
-            [] => default_of(alloc, &net.shape),
-            [first, ..] => {
-                let value = copy(alloc, slot_at(state, driver_at(net, *first)))?;
-                Ok(value)
-            }
-        },
+    match order {
+        [] => default_of(alloc, &net.shape),
+        [first, ..] => {
+            let value = copy(alloc, slot_at(state, driver_at(net, *first)))?;
+            Ok(value)
+        }
     }
 }
 
@@ -170,10 +177,13 @@ fn resolve(
     order: &[u32],
 ) -> Result<(), AllocError>
     requires design { IsDesign design.now }
+    requires plain_design { IsPlain design.now }
     requires state { IsStateOf design.now state.old }
+    requires plain { IsPlainState state.old }
     requires allowed { IsSome (step design.now state.old (Event.Resolve net order.now)) }
     ensures step { OnOk result (step design.now state.old (Event.Resolve net order.now) ≡ Some state.new) }
     ensures state { OnOk result (IsStateOf design.now state.new) }
+    ensures plain { OnOk result (IsPlainState state.new) }
 {
     let value = resolution(alloc, state, net_at(design, net), order)?;
     state.publish(net, value);
@@ -192,44 +202,20 @@ pub fn apply(
     event: &Event,
 ) -> Result<(), AllocError>
     requires design { IsDesign design.now }
+    requires plain_design { IsPlain design.now }
     requires state { IsStateOf design.now state.old }
+    requires plain { IsPlainState state.old }
     requires allowed { IsSome (step design.now state.old event.now) }
     requires few { AtMost (2 ^ 62) state.old }
     ensures step { OnOk result (step design.now state.old event.now ≡ Some state.new) }
     ensures state { OnOk result (IsStateOf design.now state.new) }
+    ensures plain { OnOk result (IsPlainState state.new) }
 {
     match event {
         Event::Assign { assign } => evaluate(alloc, design, state, *assign),
         Event::Resolve { net, order } => resolve(alloc, design, state, *net, order.items()),
+        Event::Stmt { .. } | Event::Update => unreachable!(),
     }
-}
-
-fn has_value(alloc: Global, design: &Design, tree: &Tree, env: &Env) -> Result<bool, AllocError>
-    requires { IsEnvOf design.now env.now }
-    ensures { IfOk result (λ some. IsTrue some ↔ IsSome (value_of env.now tree.now)) }
-{
-    match meaning(alloc, design, tree, env) {
-        Ok(_) => Ok(true),
-        Err(Stop::TooLong) => Ok(false),
-        Err(Stop::OutOfMemory(refused)) => Err(refused),
-    }
-}
-
-fn is_evaluation_allowed(
-    alloc: Global,
-    design: &Design,
-    state: &State,
-    assign: u32,
-) -> Result<bool, AllocError>
-    requires design { IsDesign design.now }
-    requires state { IsStateOf design.now state.now }
-    ensures { IfOk result (λ allowed. IsTrue allowed ↔ IsSome (step design.now state.now (Event.Assign assign))) }
-{
-    if !is_evaluation_pending(design, state, assign) {
-        return Ok(false);
-    }
-    let some = has_value(alloc, design, &assign_at(design, assign).right, &state.env)?;
-    Ok(some)
 }
 
 /// Whether the event may be performed: it is pending and its evaluation is not too long.
@@ -238,22 +224,16 @@ fn is_evaluation_allowed(
 ///
 /// Where memory is refused.
 pub fn allowed(
-    alloc: Global,
+    _alloc: Global,
     design: &Design,
     state: &State,
     event: &Event,
 ) -> Result<bool, AllocError>
     requires design { IsDesign design.now }
+    requires plain_design { IsPlain design.now }
     requires state { IsStateOf design.now state.now }
+    requires plain { IsPlainState state.now }
     ensures { IfOk result (λ allowed. IsTrue allowed ↔ IsSome (step design.now state.now event.now)) }
 {
-    match event {
-        Event::Assign { assign } => is_evaluation_allowed(alloc, design, state, *assign),
-        Event::Resolve { net, order } => Ok(is_resolution_pending(
-            design,
-            state,
-            *net,
-            order.items(),
-        )),
-    }
+    Ok(pending(design, state, event))
 }

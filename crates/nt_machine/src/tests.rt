@@ -1,16 +1,28 @@
 // A design of two nets, performed event by event.
-ghost use Rattle.std.specs.Prelude.{◌≡◌, ◌<◌, ◌≤◌, ◌+◌, ◌^◌, IfOk, OnOk, ℕ, [], ◌∷◌, length};
+ghost use Rattle.std.specs.Prelude.{◌≡◌, ◌<◌, ◌≤◌, ◌+◌, ◌^◌, IfOk, OnOk, ℕ, [], ◌∷◌, length, Some};
 ghost use Rattle.nt_value.specs.Values.{shape_of};
-ghost use Rattle.nt_design.specs.WellFormed.{IsDesign, shape_of_tree};
-ghost use Rattle.nt_machine.specs.State.{IsStateOf, AtMost};
-ghost use Rattle.nt_design.specs.declared.design.Target.TheVariants.{Slot};
+ghost use Rattle.nt_design.specs.Parts.{Value as ValueOf};
+ghost use Rattle.nt_design.specs.Plain.{IsPlain};
+ghost use Rattle.nt_design.specs.WellFormed.{IsDesign};
+ghost use Rattle.nt_design.specs.declared.object.NetKind.TheVariants.{Unresolved};
+ghost use Rattle.nt_design.specs.declared.target.Target.TheVariants.{Slot};
+ghost use Rattle.nt_design.specs.declared.tree.Tree.TheVariants.{Const};
+ghost use Rattle.nt_machine.specs.Plain.{IsPlainState};
+ghost use Rattle.nt_machine.specs.StateFits.{IsStateOf, AtMost};
 
 use crate::{Event, Order, State, allowed, apply, start};
-use nt_design::{Assign, Design, Net, NetKind, Target, Tree};
-use nt_value::{Base, Bits, Leaf, Name, Shape, Unit, Value, same};
+use nt_design::{Assign, Design, Net, NetKind, Object, Scoped, Target, Tree};
+use nt_value::{Base, Bits, Leaf, Name, Place, Shape, Unit, Value, same};
 use sqlite_items::Items;
 use std::alloc::{AllocError, Global};
 use std::test::Fail;
+
+const AT: Place = Place {
+    file: 0,
+    offset: 0,
+    line: 1,
+    column: 1,
+};
 
 fn int(alloc: Global) -> Result<Shape, AllocError>
     ensures { IfOk result (λ shape. shape ≡ Leaf.INT ∷ []) }
@@ -25,16 +37,43 @@ fn number(alloc: Global, number: u64) -> Result<Value, AllocError>
     Ok(Value::new(vec![in alloc; Bits::number(Leaf::INT, number)]?))
 }
 
+fn scoped(alloc: Global, name: &[u8], net: u32) -> Result<Scoped, AllocError>
+    ensures { IfOk result (λ scoped. scoped ≡ record { depth = 0; name = name.now; object = Some (Object.Net net) }) }
+{
+    Ok(Scoped {
+        depth: 0,
+        name: Name::from_slice(alloc, name)?,
+        object: Some(Object::Net(net)),
+    })
+}
+
+fn scopes(alloc: Global) -> Result<Items<Scoped>, AllocError>
+    ensures { IfOk result (λ scopes. scopes ≡ record { depth = 0; name = 100 ∷ []; object = Some (Object.Net 0) } ∷ record { depth = 0; name = 102 ∷ []; object = Some (Object.Net 1) } ∷ []) }
+{
+    let first = scoped(alloc, b"d", 0)?;
+    let second = scoped(alloc, b"f", 1)?;
+    Ok(Items::from_vec(vec![in alloc; first, second]?))
+}
+
 fn joined(alloc: Global, driven: Net, floating: Net, assign: Assign) -> Result<Design, AllocError>
     requires driver { driven.slots ≡ 0 ∷ [] }
     requires free { floating.slots ≡ [] }
+    requires kind { driven.kind ≡ Unresolved }
+    requires other_kind { floating.kind ≡ Unresolved }
     requires target { assign.target ≡ Slot 0 0 0 0 }
-    requires shape { shape_of_tree assign.right ≡ driven.shape }
-    ensures { IfOk result (λ design. IsDesign design) }
+    requires right { (value : ValueOf) × (assign.right ≡ Const value) × (shape_of value ≡ driven.shape) }
+    requires reads { assign.reads ≡ [] }
+    ensures design { IfOk result (λ design. IsDesign design) }
+    ensures plain { IfOk result (λ design. IsPlain design) }
 {
+    let scopes = scopes(alloc)?;
     Ok(Design {
         nets: Items::from_vec(vec![in alloc; driven, floating]?),
+        vars: Items::new(alloc),
+        procs: Items::new(alloc),
         assigns: Items::from_vec(vec![in alloc; assign]?),
+        functions: Items::new(alloc),
+        scopes,
         unit: Unit {
             ten: 0,
             base: Base::Ns,
@@ -43,20 +82,23 @@ fn joined(alloc: Global, driven: Net, floating: Net, assign: Assign) -> Result<D
 }
 
 fn net(alloc: Global, name: &[u8], slots: Items<u32>) -> Result<Net, AllocError>
-    ensures { IfOk result (λ net. (net.slots ≡ slots) × (net.shape ≡ Leaf.INT ∷ [])) }
+    ensures { IfOk result (λ net. (net.slots ≡ slots) × (net.kind ≡ Unresolved) × (net.shape ≡ Leaf.INT ∷ [])) }
 {
     Ok(Net {
         name: Name::from_slice(alloc, name)?,
         shape: int(alloc)?,
         kind: NetKind::Unresolved,
         slots,
+        at: AT,
     })
 }
 
 fn driver(alloc: Global) -> Result<Assign, AllocError>
     ensures target { IfOk result (λ assign. assign.target ≡ Slot 0 0 0 0) }
-    ensures shape { IfOk result (λ assign. shape_of_tree assign.right ≡ Leaf.INT ∷ []) }
+    ensures right { IfOk result (λ assign. (value : ValueOf) × (assign.right ≡ Const value) × (shape_of value ≡ Leaf.INT ∷ [])) }
+    ensures reads { IfOk result (λ assign. assign.reads ≡ []) }
 {
+    let value = number(alloc, 5)?;
     Ok(Assign {
         target: Target::Slot {
             net: 0,
@@ -64,13 +106,16 @@ fn driver(alloc: Global) -> Result<Assign, AllocError>
             low: 0,
             width: 0,
         },
-        right: Tree::Const(number(alloc, 5)?),
+        right: Tree::Const(value),
+        reads: Items::new(alloc),
+        at: AT,
     })
 }
 
 // a net with the driver 5, and a net with none
 fn two_nets(alloc: Global) -> Result<Design, AllocError>
-    ensures { IfOk result (λ design. IsDesign design) }
+    ensures design { IfOk result (λ design. IsDesign design) }
+    ensures plain { IfOk result (λ design. IsPlain design) }
 {
     let driven = net(alloc, b"driven", Items::from_vec(vec![in alloc; 0]?))?;
     let floating = net(alloc, b"floating", Items::new(alloc))?;
@@ -90,9 +135,12 @@ fn perform(
     event: &Event,
 ) -> Result<(), AllocError>
     requires design { IsDesign design.now }
+    requires plain_design { IsPlain design.now }
     requires state { IsStateOf design.now state.old }
+    requires plain { IsPlainState state.old }
     requires few { AtMost 100 state.old }
     ensures state { OnOk result (IsStateOf design.now state.new) }
+    ensures plain { OnOk result (IsPlainState state.new) }
     ensures few { (most : ℕ) → AtMost most state.old → OnOk result (AtMost (most + 1) state.new) }
 {
     if !allowed(alloc, design, state, event)? {
@@ -105,6 +153,7 @@ fn perform(
 // Performs those of the events that are allowed, from the start on.
 fn after(alloc: Global, design: &Design, events: &[Event]) -> Result<State, AllocError>
     requires design { IsDesign design.now }
+    requires plain_design { IsPlain design.now }
     requires few { length events.now < 100 }
     ensures { IfOk result (λ state. IsStateOf design.now state) }
 {

@@ -1,19 +1,39 @@
 -- The design of a source is well formed.
-use Rattle.std.proofs.Common.{◌≡◌, ℕ, zero, suc, ◌≤◌, List, [], ◌∷◌, length, map, Option, Some, None, slice_get, option_map, option_to_list, unwrap_or, refl, sym, ◌∙◌, ap, subst, arith}
-use Rattle.std.specs.List.{flat_map}
+use Rattle.std.proofs.Common.{◌≡◌, ◌↔◌, ℕ, zero, suc, ◌≤◌, List, [], ◌∷◌, length, map, Option, Some, None, slice_get, option_map, option_to_list, unwrap_or, inr, refl, sym, ◌∙◌, ap, subst, arith}
+use Rattle.std.specs.List.{Contains, flat_map, range_with_len}
 use Rattle.std.proofs.lemmas.List.{length-map}
 use Rattle.std.proofs.lemmas.Option.{slice_get-map}
-use Rattle.nt_design.specs.WellFormed.{IsDesign, IsNet, IsAssign, Drives}
-use Rattle.nt_design.specs.declared.design.Assign.{Assign}
+use Rattle.nt_design.specs.Shapes.{target_shape, on_shape, slot_shape}
+use Rattle.nt_design.specs.WellFormed.{IsDesign, IsNet, IsAssign, IsChain, Drives, Assigns, called_by, scope_with}
+use Rattle.nt_design.specs.Plain.{IsPlain, IsConstantDriver}
+use Rattle.nt_design.specs.declared.design.Design.{Design}
+use Rattle.nt_design.specs.declared.object.Net.{Net}
+use Rattle.nt_design.specs.declared.object.NetKind.TheVariants.{Unresolved}
+use Rattle.nt_design.specs.declared.object.Object.TheVariants as object
+use Rattle.nt_design.proofs.Constants.{shape_const, time_const, reads_const}
+use Rattle.nt_design.specs.declared.target.Target.TheVariants.{Slot, Var as VarTarget}
+use Rattle.nt_design.specs.declared.process.Assign.{Assign}
 use Rattle.nt_small.specs.Grammar.{Source, Item, Declare, Drive, declared_nets, driven_nets}
-use Rattle.nt_small.specs.Elaboration.{position_of, net_of_name, assigns_of_item, assign_of_drive, design_of}
+use Rattle.nt_small.specs.Elaboration.{int_leaf, int_value, number_of_digits, position_of, net_of_name, assigns_of_item, assign_of_drive, design_of}
 use Rattle.nt_small.specs.Tables.{AreSound}
 use Rattle.nt_small.proofs.Positions.{Contains-from_at, at_from_Contains, few_distinct}
 use Rattle.nt_small.proofs.Naming.{at_position, position_there, position_distinct}
 use Rattle.nt_small.proofs.Gathering.{length-assigns}
+use Rattle.nt_small.proofs.Scopes.{all_scoped, all_named}
 
 at_none : {X : Type 0} (x : X) → None ≡ Some x → ⊥
 at_none x h = cc
+
+no_member : (x : ℕ) → Contains [] x → ⊥
+no_member x h = grind arith
+
+-- a slot is no variable
+slot_is_no_variable : (net v : ℕ) → Slot net 0 0 0 ≡ VarTarget v [] → ⊥
+slot_is_no_variable net v h = cc
+
+-- the leaves of a whole slot are those of its net
+shape_found : (d : Design) (n : ℕ) (net : Net) → slice_get d.nets n ≡ Some net → target_shape (scope_with d [] None) (Slot n 0 0 0) ≡ Some net.shape
+shape_found d n net at = ap (λ o. on_shape o (slot_shape 0 0)) (slice_get-map (λ (x : Net). x.shape) d.nets n ∙ ap (option_map (λ (x : Net). x.shape)) at)
 
 module _ {X Y : Type 0} (f : X → Y) where
   -- an element of a map is the image of one
@@ -47,30 +67,79 @@ at_most_one : (o : Option ℕ) → length (option_to_list o) ≤ 1
 at_most_one None = omega arith
 at_most_one (Some b) = omega arith
 
+-- a chain of calls in a design without functions
+no_chain : (d : Design) (fs : List ℕ) → d.functions ≡ [] → IsChain d fs → length fs ≤ 17
+no_chain d [] none chain = omega arith
+no_chain d (f ∷ []) none chain = omega arith
+no_chain d (f ∷ g ∷ fs) none chain = absurd (no_member g (subst (λ functions. Contains (called_by (slice_get functions f)) g) none chain.0))
+
+-- a number drives a whole net
+constant_driver : (names : List (List ℕ)) (net digits : List ℕ) → IsConstantDriver (assign_of_drive names net digits)
+constant_driver names net digits = record {
+  whole = (refl, refl);
+  constant = (int_value (number_of_digits digits), refl);
+  reads = refl;
+}
+
 module _ (s : Source) (sound : AreSound s.items) where
   is_net : (n : ℕ) (name : List ℕ) → slice_get (declared_nets s.items) n ≡ Some name → IsNet (design_of s) n (net_of_name s.top (driven_nets s.items) name)
-  is_net n name at = record { one_slot = λ kind. at_most_one (position_of name (driven_nets s.items)); driven = driven }
+  is_net n name at =
+      let few = at_most_one (position_of name (driven_nets s.items)) in
+      record { kind = few; driven = driven; few_drivers = omega arith }
     where
       driven : (slot a : ℕ) → slice_get (option_to_list (position_of name (driven_nets s.items))) slot ≡ Some a → Drives (design_of s) a n slot
       driven slot a there =
           let one = one_at (position_of name (driven_nets s.items)) slot a there in
           let assign = assign_at (declared_nets s.items) s.items a name (at_position name (driven_nets s.items) a one.1) in
-          (assign_of_drive (declared_nets s.items) name assign.0, assign.1, ap (λ o. unwrap_or o 0) (position_distinct (declared_nets s.items) n name sound.declared at), sym one.0)
+          (assign_of_drive (declared_nets s.items) name assign.0, assign.1, (ap (λ o. unwrap_or o 0) (position_distinct (declared_nets s.items) n name sound.declared at), sym one.0))
 
   is_assign : (a : ℕ) (name digits : List ℕ) → slice_get (driven_nets s.items) a ≡ Some name → IsAssign (design_of s) a (assign_of_drive (declared_nets s.items) name digits)
   is_assign a name digits at =
       let known = position_there name (declared_nets s.items) (sound.listed name (Contains-from_at (driven_nets s.items) a name at)) in
-      let there : slice_get (map (net_of_name s.top (driven_nets s.items)) (declared_nets s.items)) known.0 ≡ Some (net_of_name s.top (driven_nets s.items) name) =
-      slice_get-map (net_of_name s.top (driven_nets s.items)) (declared_nets s.items) known.0 ∙ ap (option_map (net_of_name s.top (driven_nets s.items))) (at_position name (declared_nets s.items) known.0 known.1) in
+      let net = net_of_name s.top (driven_nets s.items) in
+      let there : slice_get (map net (declared_nets s.items)) known.0 ≡ Some (net name) =
+      slice_get-map net (declared_nets s.items) known.0 ∙ ap (option_map net) (at_position name (declared_nets s.items) known.0 known.1) in
+      let found : slice_get (map net (declared_nets s.items)) (unwrap_or (position_of name (declared_nets s.items)) 0) ≡ Some (net name) = ap (λ o. slice_get (map net (declared_nets s.items)) (unwrap_or o 0)) known.1 ∙ there in
       record {
-        whole = (refl, refl);
-        listed = (net_of_name s.top (driven_nets s.items) name, ap (λ o. slice_get (map (net_of_name s.top (driven_nets s.items)) (declared_nets s.items)) (unwrap_or o 0)) known.1 ∙ there, ap (λ o. slice_get (option_to_list o) 0) (position_distinct (driven_nets s.items) a name sound.driven at), refl);
+        target = (net name, found, ap (λ o. slice_get (option_to_list o) 0) (position_distinct (driven_nets s.items) a name sound.driven at), inr (refl, refl));
+        shape = (int_leaf ∷ [], shape_found (design_of s) (unwrap_or (position_of name (declared_nets s.items)) 0) (net name) found, shape_const (scope_with (design_of s) [] None) (int_value (number_of_digits digits)));
+        no_time = time_const (int_value (number_of_digits digits));
+        reads = λ o. subst (λ l. Contains [] o ↔ Contains l o) (sym (reads_const (int_value (number_of_digits digits)))) (λ c. c, λ c. c);
       }
+
+  -- no assignment drives a variable
+  no_variable : (a v : ℕ) → Assigns (design_of s) a v → ⊥
+  no_variable a v assigns =
+      let drive = at_assigns (declared_nets s.items) s.items a assigns.0 assigns.1 in
+      slot_is_no_variable _ v (ap (λ (x : Assign). x.target) drive.3 ∙ assigns.2)
 
   pub design_is : length (declared_nets s.items) ≤ 16384 → IsDesign (design_of s)
   design_is few = record {
     nets = λ n net at. let name = at_map (net_of_name s.top (driven_nets s.items)) (declared_nets s.items) n net at in subst (λ m. IsNet (design_of s) n m) name.2 (is_net n name.0 name.1);
+    vars = λ v var at. absurd (at_none var at);
+    procs = λ p proc at. absurd (at_none proc at);
     assigns = λ a assign at. let drive = at_assigns (declared_nets s.items) s.items a assign at in subst (λ m. IsAssign (design_of s) a m) drive.3 (is_assign a drive.0 drive.1 drive.2);
-    few_nets = omega (arith, few, length-map (declared_nets s.items) (net_of_name s.top (driven_nets s.items)));
-    few_assigns = omega (arith, few, length-assigns (declared_nets s.items) s.items, few_distinct (driven_nets s.items) (declared_nets s.items) sound.driven (λ k x at. at_from_Contains (declared_nets s.items) x (sound.listed x (Contains-from_at (driven_nets s.items) k x at))));
+    functions = λ f function at. absurd (at_none function at);
+    called = λ f function called at. absurd (at_none function at);
+    writers = record {
+      one_assign = λ a b v p q. absurd (no_variable a v p);
+      no_write = λ a p v x y. no_variable a v x;
+      one_writer = λ p q v sole x y. absurd (at_none sole.0 sole.1);
+    };
+    scopes = all_scoped (design_of s) s.top (declared_nets s.items) (sym (length-map (declared_nets s.items) (net_of_name s.top (driven_nets s.items))));
+    small = record {
+      nets = omega (arith, few, length-map (declared_nets s.items) (net_of_name s.top (driven_nets s.items)));
+      vars = omega arith;
+      processes = omega (arith, few, length-assigns (declared_nets s.items) s.items, few_distinct (driven_nets s.items) (declared_nets s.items) sound.driven (λ k x at. at_from_Contains (declared_nets s.items) x (sound.listed x (Contains-from_at (driven_nets s.items) k x at))));
+      chains = λ fs chain. no_chain (design_of s) fs refl chain;
+    };
+  }
+
+  pub design_plain : IsPlain (design_of s)
+  design_plain = record {
+    vars = refl;
+    procs = refl;
+    nets = λ n net at. let name = at_map (net_of_name s.top (driven_nets s.items)) (declared_nets s.items) n net at in subst (λ (m : Net). m.kind ≡ Unresolved) name.2 refl;
+    assigns = λ a assign at. let drive = at_assigns (declared_nets s.items) s.items a assign at in subst IsConstantDriver drive.3 (constant_driver (declared_nets s.items) drive.0 drive.1);
+    named = all_named s.top (declared_nets s.items) ∙ ap (λ k. map (λ n. object.Net n) (range_with_len 0 k)) (sym (length-map (declared_nets s.items) (net_of_name s.top (driven_nets s.items))));
   }

@@ -6,12 +6,12 @@ use Rattle.std.proofs.lemmas.List.Elements.{Contains-append_left, Contains-appen
 use Rattle.std.proofs.Math.Seq.{take-suc}
 use Rattle.std.proofs.lemmas.Grind.{flat_map-append}
 use Rattle.std.proofs.lemmas.Option.{slice_get-map, slice_get-get_or, slice_get_within, get_or_from_slice_get}
-use Rattle.nt_design.specs.declared.design.Net.{Net}
-use Rattle.nt_design.specs.declared.design.NetKind.TheVariants.{Unresolved}
-use Rattle.nt_design.specs.declared.design.Target.TheVariants.{Slot}
+use Rattle.nt_design.specs.declared.object.Net.{Net}
+use Rattle.nt_design.specs.declared.object.NetKind.TheVariants.{Unresolved}
+use Rattle.nt_design.specs.declared.target.Target.TheVariants.{Slot}
 use Rattle.nt_design.specs.declared.tree.Tree.TheVariants.{Const}
 use Rattle.nt_small.specs.Grammar.{Item, Declare, Drive, declared_by, driven_by, declared_nets, driven_nets, IsAllowed, AreAllowed, IsName, IsNumber}
-use Rattle.nt_small.specs.Elaboration.{position_of, assigns_of_item, assign_of_drive, number_of_digits, int_value, int_leaf, net_of_name}
+use Rattle.nt_small.specs.Elaboration.{position_of, assigns_of_item, assign_of_drive, number_of_digits, int_value, int_leaf, net_of_name, file_start}
 use Rattle.nt_small.specs.Tables.{Distinct, AreSound, IsTable, drivers_of}
 use Rattle.nt_small.specs.declared.table.Table.{Table}
 use Rattle.nt_small.proofs.Positions.{Distinct-push, Contains-from_at}
@@ -66,7 +66,7 @@ assigns_stay names more (Declare net ∷ items) known = assigns_stay names more 
 assigns_stay names more (Drive net digits ∷ items) known =
     let here = position_there net names (known net (Contains-append_left (net ∷ []) (driven_nets items) net (0, omega arith, refl))) in
     let same : position_of net (names ++ more) ≡ position_of net names = position-append net names more here.0 here.1 ∙ sym here.1 in
-    ap (λ o. record { target = Slot (unwrap_or o 0) 0 0 0; right = Const (int_value (number_of_digits digits)) } ∷ flat_map (assigns_of_item (names ++ more)) items) same ∙ ap (λ l. assign_of_drive names net digits ∷ l) (assigns_stay names more items (λ x there. known x (Contains-append_right (net ∷ []) (driven_nets items) x there)))
+    ap (λ o. record { target = Slot (unwrap_or o 0) 0 0 0; right = Const (int_value (number_of_digits digits)); reads = []; at = file_start } ∷ flat_map (assigns_of_item (names ++ more)) items) same ∙ ap (λ l. assign_of_drive names net digits ∷ l) (assigns_stay names more items (λ x there. known x (Contains-append_right (net ∷ []) (driven_nets items) x there)))
 
 pub length-assigns : (names : List (List ℕ)) (items : List Item) → length (flat_map (assigns_of_item names) items) ≡ length (driven_nets items)
 length-assigns names [] = refl
@@ -105,7 +105,7 @@ driver_is : (table : Table) (done : List Item) (net : List ℕ) (at : ℕ) → I
 driver_is table done net at is there =
     ap (λ l. slice_get l at) is.drivers ∙ slice_get-map (λ name. position_of name (driven_nets done)) (declared_nets done) at ∙ ap (option_map (λ name. position_of name (driven_nets done))) there
 
-pub driven_table : (old new : Table) (done : List Item) (net digits : List ℕ) (at : ℕ) → IsTable old done → position_of net old.names ≡ Some at → slice_get old.drivers at ≡ Some None → new.names ≡ old.names → new.drivers ≡ set old.drivers at (Some (length old.assigns)) → new.assigns ≡ old.assigns ++ record { target = Slot at 0 0 0; right = Const (int_value (number_of_digits digits)) } ∷ [] → IsTable new (done ++ Drive net digits ∷ [])
+pub driven_table : (old new : Table) (done : List Item) (net digits : List ℕ) (at : ℕ) → IsTable old done → position_of net old.names ≡ Some at → slice_get old.drivers at ≡ Some None → new.names ≡ old.names → new.drivers ≡ set old.drivers at (Some (length old.assigns)) → new.assigns ≡ old.assigns ++ record { target = Slot at 0 0 0; right = Const (int_value (number_of_digits digits)); reads = []; at = file_start } ∷ [] → IsTable new (done ++ Drive net digits ∷ [])
 driven_table old new done net digits at is found free names drivers assigns =
     let same : declared_nets (done ++ Drive net digits ∷ []) ≡ declared_nets done = flat_map_same_item declared_by done (Drive net digits) refl in
     let more : driven_nets (done ++ Drive net digits ∷ []) ≡ driven_nets done ++ net ∷ [] = flat_map_more_item driven_by done (Drive net digits) (net ∷ []) refl in
@@ -117,7 +117,7 @@ driven_table old new done net digits at is found free names drivers assigns =
     record {
       names = names ∙ is.names ∙ sym same;
       drivers = drivers ∙ ap (λ l. set l at (Some (length old.assigns))) is.drivers ∙ ap (λ o. set (drivers_of (driven_nets done) (declared_nets done)) at o) count ∙ set_map (λ name. position_of name (driven_nets done)) (λ name. position_of name (driven_nets done ++ net ∷ [])) (declared_nets done) at net (Some (length (driven_nets done))) there (position-push_same net (driven_nets done) undriven) other ∙ ap (λ l. drivers_of l (declared_nets done)) (sym more) ∙ ap (drivers_of (driven_nets (done ++ Drive net digits ∷ []))) (sym same);
-      assigns = assigns ∙ ap (λ l. l ++ record { target = Slot at 0 0 0; right = Const (int_value (number_of_digits digits)) } ∷ []) is.assigns ∙ ap (λ o. flat_map (assigns_of_item (declared_nets done)) done ++ record { target = Slot (unwrap_or o 0) 0 0 0; right = Const (int_value (number_of_digits digits)) } ∷ []) (sym place) ∙ sym (flat_map_more_item (assigns_of_item (declared_nets done)) done (Drive net digits) (assign_of_drive (declared_nets done) net digits ∷ []) refl) ∙ ap (λ l. flat_map (assigns_of_item l) (done ++ Drive net digits ∷ [])) (sym same);
+      assigns = assigns ∙ ap (λ l. l ++ record { target = Slot at 0 0 0; right = Const (int_value (number_of_digits digits)); reads = []; at = file_start } ∷ []) is.assigns ∙ ap (λ o. flat_map (assigns_of_item (declared_nets done)) done ++ record { target = Slot (unwrap_or o 0) 0 0 0; right = Const (int_value (number_of_digits digits)); reads = []; at = file_start } ∷ []) (sym place) ∙ sym (flat_map_more_item (assigns_of_item (declared_nets done)) done (Drive net digits) (assign_of_drive (declared_nets done) net digits ∷ []) refl) ∙ ap (λ l. flat_map (assigns_of_item l) (done ++ Drive net digits ∷ [])) (sym same);
       sound = driven_sound done net digits is.sound (Contains-from_at (declared_nets done) at net there) (no_position net (driven_nets done) undriven);
     }
 
@@ -207,7 +207,7 @@ pub mapped_at : {X Y : Type 0} (f : X → Y) (xs : List X) (i : ℕ) (d : X) →
 mapped_at f xs i d h = slice_get-map f xs i ∙ ap (option_map f) (slice_get-get_or xs i d h)
 
 -- one more net of a table
-pub one_more_net : (top : List ℕ) (driven : List (List ℕ)) (names : List (List ℕ)) (drivers : List (Option ℕ)) (i : ℕ) (name : List ℕ) (driver : Option ℕ) (old new : List Net) (net : Net) → slice_get names i ≡ Some name → slice_get drivers i ≡ Some driver → drivers ≡ drivers_of driven names → net ≡ record { name = top ++ (codes "." ++ name); shape = int_leaf ∷ []; kind = Unresolved; slots = option_to_list driver } → old ≡ map (net_of_name top driven) (take i names) → new ≡ old ++ net ∷ [] → new ≡ map (net_of_name top driven) (take (i + 1) names)
+pub one_more_net : (top : List ℕ) (driven : List (List ℕ)) (names : List (List ℕ)) (drivers : List (Option ℕ)) (i : ℕ) (name : List ℕ) (driver : Option ℕ) (old new : List Net) (net : Net) → slice_get names i ≡ Some name → slice_get drivers i ≡ Some driver → drivers ≡ drivers_of driven names → net ≡ record { name = top ++ (codes "." ++ name); shape = int_leaf ∷ []; kind = Unresolved; slots = option_to_list driver; at = file_start } → old ≡ map (net_of_name top driven) (take i names) → new ≡ old ++ net ∷ [] → new ≡ map (net_of_name top driven) (take (i + 1) names)
 one_more_net top driven names drivers i name driver old new net at there is net_is so_far more =
     let same : driver ≡ position_of name driven = some_same _ _ (sym there ∙ ap (λ l. slice_get l i) is ∙ slice_get-map (λ n. position_of n driven) names i ∙ ap (option_map (λ n. position_of n driven)) at) in
-    more ∙ ap (λ l. l ++ net ∷ []) so_far ∙ ap (λ n. map (net_of_name top driven) (take i names) ++ n ∷ []) (net_is ∙ ap (λ o. record { name = top ++ (codes "." ++ name); shape = int_leaf ∷ []; kind = Unresolved; slots = option_to_list o }) same) ∙ sym (map_push (net_of_name top driven) (take i names) name) ∙ ap (map (net_of_name top driven)) (sym (take_at names i name at))
+    more ∙ ap (λ l. l ++ net ∷ []) so_far ∙ ap (λ n. map (net_of_name top driven) (take i names) ++ n ∷ []) (net_is ∙ ap (λ o. record { name = top ++ (codes "." ++ name); shape = int_leaf ∷ []; kind = Unresolved; slots = option_to_list o; at = file_start }) same) ∙ sym (map_push (net_of_name top driven) (take i names) name) ∙ ap (map (net_of_name top driven)) (sym (take_at names i name at))

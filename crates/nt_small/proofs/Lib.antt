@@ -5,5 +5,6 @@ pub mod Decimal
 pub mod Positions
 pub mod Naming
 pub mod Gathering
+pub mod Scopes
 pub mod Designs
 pub mod Tokens

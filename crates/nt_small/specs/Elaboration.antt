@@ -1,22 +1,29 @@
 -- The design of a source.
-use Rattle.std.specs.Prelude.{ℕ, ◌+◌, ◌-◌, ◌*◌, true, false, List, [], ◌∷◌, ◌++◌, codes, fold, map, position, Option, unwrap_or, option_to_list}
+use Rattle.std.specs.Prelude.{ℕ, ◌+◌, ◌-◌, ◌*◌, true, false, List, [], ◌∷◌, ◌++◌, codes, fold, map, position, Option, Some, None, unwrap_or, option_to_list}
 use Rattle.std.specs.List.{flat_map}
 use Rattle.std.specs.Str.{bytes_eq}
 use Rattle.nt_value.specs.Digits.{LeafValue}
 use Rattle.nt_value.specs.Values.{binary}
 use Rattle.nt_value.specs.declared.leaf.Leaf.{Leaf}
+use Rattle.nt_value.specs.declared.place.Place.{Place}
 use Rattle.nt_value.specs.declared.unit.Base.TheVariants.{Ns}
-use Rattle.nt_design.specs.declared.design.Assign.{Assign}
+use Rattle.nt_design.specs.declared.process.Assign.{Assign}
 use Rattle.nt_design.specs.declared.design.Design.{Design}
-use Rattle.nt_design.specs.declared.design.Net.{Net}
-use Rattle.nt_design.specs.declared.design.NetKind.TheVariants.{Unresolved}
-use Rattle.nt_design.specs.declared.design.Target.TheVariants.{Slot}
+use Rattle.nt_design.specs.declared.design.Scoped.{Scoped}
+use Rattle.nt_design.specs.declared.object.Net.{Net}
+use Rattle.nt_design.specs.declared.object.NetKind.TheVariants.{Unresolved}
+use Rattle.nt_design.specs.declared.object.Object.TheVariants as object
+use Rattle.nt_design.specs.declared.target.Target.TheVariants.{Slot}
 use Rattle.nt_design.specs.declared.tree.Tree.TheVariants.{Const}
 use Rattle.nt_small.specs.Grammar.{Source, Item, Declare, Drive, declared_nets, driven_nets}
 
 -- the leaf of int
 abbrev pub int_leaf : Leaf
 int_leaf = record { width = 32; signed = true; four = false }
+
+-- the start of the file: the small language keeps no places
+abbrev pub file_start : Place
+file_start = record { file = 0; offset = 0; line = 1; column = 1 }
 
 -- the number of decimal digits
 abbrev pub number_of_digits : List ℕ → ℕ
@@ -37,6 +44,7 @@ net_of_name top driven name = record {
   shape = int_leaf ∷ [];
   kind = Unresolved;
   slots = option_to_list (position_of name driven);
+  at = file_start;
 }
 
 -- the assignment of a number to one of the declared nets
@@ -44,6 +52,8 @@ abbrev pub assign_of_drive : List (List ℕ) → List ℕ → List ℕ → Assig
 assign_of_drive declared net digits = record {
   target = Slot (unwrap_or (position_of net declared) 0) 0 0 0;
   right = Const (int_value (number_of_digits digits));
+  reads = [];
+  at = file_start;
 }
 
 -- the assignment of an item, if it is one
@@ -51,10 +61,23 @@ abbrev pub assigns_of_item : List (List ℕ) → Item → List Assign
 assigns_of_item declared (Declare net) = []
 assigns_of_item declared (Drive net digits) = assign_of_drive declared net digits ∷ []
 
+-- the names in the scope of a module: each net with its number, from one on
+abbrev pub net_names : ℕ → List (List ℕ) → List Scoped
+net_names n [] = []
+net_names n (name ∷ names) = record { depth = 1; name = name; object = Some (object.Net n) } ∷ net_names (n + 1) names
+
+-- the module, and the names in it
+abbrev pub scopes_of : List ℕ → List (List ℕ) → List Scoped
+scopes_of top names = record { depth = 0; name = top; object = None } ∷ net_names 0 names
+
 -- the nets in the order of their declarations, and the assignments in order
 abbrev pub design_of : Source → Design
 design_of s = record {
   nets = map (net_of_name s.top (driven_nets s.items)) (declared_nets s.items);
   assigns = flat_map (assigns_of_item (declared_nets s.items)) s.items;
+  vars = [];
+  procs = [];
+  functions = [];
+  scopes = scopes_of s.top (declared_nets s.items);
   unit = record { ten = 0; base = Ns };
 }

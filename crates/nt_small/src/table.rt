@@ -1,10 +1,10 @@
 // The nets and the assignments of a module, gathered from its items.
 ghost use Rattle.std.specs.Prelude.{◌≡◌, ◌<◌, ◌≤◌, ◌≢◌, ◌↔◌, ◌++◌, ◌∷◌, [], IsTrue, IfOk, IfSome, IfNone, OnOk, List, ℕ, length, map, Some, None, slice_get, slice_set};
 ghost use Rattle.nt_small.specs.Grammar.{Item, IsName, IsNumber, IsAllowed, AreAllowed};
-ghost use Rattle.nt_small.specs.Elaboration.{position_of, number_of_digits, int_value};
+ghost use Rattle.nt_small.specs.Elaboration.{file_start, position_of, number_of_digits, int_value};
 ghost use Rattle.nt_small.specs.Said.{item_of};
 ghost use Rattle.nt_small.specs.Tables.{IsTable};
-ghost use Rattle.nt_design.specs.declared.design.Target.TheVariants.{Slot};
+ghost use Rattle.nt_design.specs.declared.target.Target.TheVariants.{Slot};
 ghost use Rattle.nt_design.specs.declared.tree.Tree.TheVariants.{Const};
 
 use crate::bytes::same;
@@ -13,6 +13,7 @@ use crate::names::{is_name, is_number};
 use crate::numbers::int;
 use indexmap::IndexSet;
 use nt_design::{Assign, Target, Tree};
+use nt_value::Place;
 use sqlite_items::Items;
 use std::alloc::{AllocError, Global};
 use std::marker::Model;
@@ -70,6 +71,14 @@ impl<'a> Names<'a> {
         Ok(())
     }
 }
+
+/// The start of the file: the small language keeps no places.
+pub const FILE_START: Place = Place {
+    file: 0,
+    offset: 0,
+    line: 1,
+    column: 1,
+};
 
 /// The declared nets, for each of them the number of the assignment that drives it, and the assignments.
 #[derive(Drop)]
@@ -136,7 +145,7 @@ impl<'a> Table<'a> {
         requires few_assigns { length self.old.assigns ≤ 4194304 }
         ensures names { OnOk result (self.new.names ≡ self.old.names) }
         ensures drivers { OnOk result (self.new.drivers ≡ slice_set self.old.drivers at (Some (length self.old.assigns))) }
-        ensures assigns { OnOk result (self.new.assigns ≡ self.old.assigns ++ record { target = Slot at 0 0 0; right = Const (int_value (number_of_digits digits.now)) } ∷ []) }
+        ensures assigns { OnOk result (self.new.assigns ≡ self.old.assigns ++ record { target = Slot at 0 0 0; right = Const (int_value (number_of_digits digits.now)); reads = []; at = file_start } ∷ []) }
     {
         let value = int(alloc, digits)?;
         self.drivers.set(at, Some(self.assigns.len() as u32));
@@ -148,6 +157,8 @@ impl<'a> Table<'a> {
                 width: 0,
             },
             right: Tree::Const(value),
+            reads: Items::new(alloc),
+            at: FILE_START,
         })
     }
 

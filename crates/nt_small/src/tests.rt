@@ -93,14 +93,19 @@ fn is_net(net: &Net, name: &[u8], slots: &[u32]) -> bool {
 // Whether the assignment drives slot 0 of the net of this number with this number.
 fn is_assign(alloc: Global, assign: &Assign, to: u32, digits: &[u8]) -> Result<bool, AllocError> {
     let mut text = Text::new(Vec::new(alloc));
-    let Tree::Const(value) = &assign.right;
+    let Tree::Const(value) = &assign.right else {
+        return Ok(false);
+    };
     print(value, &mut text)?;
     let Target::Slot {
         net,
         slot,
         low,
         width,
-    } = assign.target;
+    } = assign.target
+    else {
+        return Ok(false);
+    };
     Ok(net == to && slot == 0 && low == 0 && width == 0 && text.items() == digits)
 }
 

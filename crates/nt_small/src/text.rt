@@ -3,6 +3,7 @@ ghost use Rattle.std.specs.Prelude.{◌≡◌, ◌≤◌, ◌∷◌, IfOk, IfSom
 ghost use Rattle.nt_small.specs.Grammar.{Source, Says, IsSource, tokens};
 ghost use Rattle.nt_small.specs.Elaboration.{design_of};
 ghost use Rattle.nt_small.specs.Law.{SaysOne};
+ghost use Rattle.nt_design.specs.Plain.{IsPlain};
 ghost use Rattle.nt_design.specs.WellFormed.{IsDesign};
 
 use crate::elaborate::elaborate;
@@ -46,6 +47,7 @@ fn design_from_pieces(
     requires { length pieces.now ≤ 4194304 }
     ensures some { IfOk result (λ o. IfSome o (λ d. (s : Source) × IsSource s × (s.top ≡ top.now) × (pieces.now ≡ tokens s) × (d ≡ design_of s))) }
     ensures well_formed { IfOk result (λ o. IfSome o (λ d. IsDesign d)) }
+    ensures plain { IfOk result (λ o. IfSome o (λ d. IsPlain d)) }
     ensures none { IfOk result (λ o. IfNone o ((s : Source) → IsSource s → s.top ≡ top.now → pieces.now ≡ tokens s → ⊥)) }
 {
     let Some(nettype) = heading(top, pieces) else {
@@ -78,6 +80,7 @@ pub fn design_from_text(
 ) -> Result<Option<Design>, AllocError>
     ensures some { IfOk result (λ o. IfSome o (λ d. (s : Source) × Says top.now text.now s × (d ≡ design_of s))) }
     ensures well_formed { IfOk result (λ o. IfSome o (λ d. IsDesign d)) }
+    ensures plain { IfOk result (λ o. IfSome o (λ d. IsPlain d)) }
     ensures none { IfOk result (λ o. IfNone o ((s : Source) → Says top.now text.now s → ⊥)) }
 {
     if text.len() > MOST_BYTES {

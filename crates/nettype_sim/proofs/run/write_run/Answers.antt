@@ -13,12 +13,12 @@ returns-in_err-write_entries-clause-part g c =
 
 pub returns-in_err-write_trace-clause-part : goal.returns-in_err-write_trace-clause-part
 returns-in_err-write_trace-clause-part g c =
-    if_err_any _ (cut_in_trace _ _ _ _ _ _ _ _ c.in_ok-entries.ensures.execution c.in_ok-entries.ensures.complete c.in_ok-put.ensures.all c.in_ok-write_entries.ensures.all c.in_err-write_trace.ensures.part)
+    if_err_any _ (cut_in_trace _ _ _ c.in_ok-entries.ensures.execution c.requires.plain_design c.in_ok-entries.ensures.plain c.in_ok-entries.ensures.complete _ _ _ _ _ c.in_ok-put.ensures.all c.in_ok-write_entries.ensures.all c.in_err-write_trace.ensures.part)
 
 pub returns-in_err-put-2-clause-part : goal.returns-in_err-put-2-clause-part
 returns-in_err-put-2-clause-part g c =
-    if_err_any _ (cut_in_end _ _ _ _ _ _ _ _ _ c.in_ok-entries.ensures.execution c.in_ok-entries.ensures.complete c.in_ok-put.ensures.all c.in_ok-write_entries.ensures.all c.in_ok-write_trace.ensures.all c.in_err-put-2.ensures.front)
+    if_err_any _ (cut_in_end _ _ _ c.in_ok-entries.ensures.execution c.requires.plain_design c.in_ok-entries.ensures.plain c.in_ok-entries.ensures.complete _ _ _ _ _ _ c.in_ok-put.ensures.all c.in_ok-write_entries.ensures.all c.in_ok-write_trace.ensures.all c.in_err-put-2.ensures.front)
 
 pub returns-clause-whole : goal.returns-clause-whole
 returns-clause-whole g c =
-    ran_whole _ _ _ _ _ _ _ _ _ c.in_ok-entries.ensures.execution c.in_ok-entries.ensures.complete c.in_ok-put.ensures.all c.in_ok-write_entries.ensures.all c.in_ok-write_trace.ensures.all c.in_ok-put-2.ensures.all
+    ran_whole _ _ _ c.in_ok-entries.ensures.execution c.requires.plain_design c.in_ok-entries.ensures.plain c.in_ok-entries.ensures.complete _ _ _ _ _ _ c.in_ok-put.ensures.all c.in_ok-write_entries.ensures.all c.in_ok-write_trace.ensures.all c.in_ok-put-2.ensures.all

@@ -3,7 +3,7 @@ use Rattle.nettype_sim.proofs.Steps.{next_evaluation, evaluated_few, few_more, e
 use Rattle.nettype_sim.proofs.slot.evaluate_one.Goals as goal
 
 pub apply-requires-clause-allowed : goal.apply-requires-clause-allowed
-apply-requires-clause-allowed c = next_evaluation _ _ _ _ _ c.requires.within c.requires.so_far
+apply-requires-clause-allowed c = next_evaluation _ _ _ _ _ c.requires.plain_design c.requires.within c.requires.so_far
 
 pub apply-requires-clause-few : goal.apply-requires-clause-few
 apply-requires-clause-few c =
@@ -11,4 +11,4 @@ apply-requires-clause-few c =
 
 pub returns : goal.returns
 returns c =
-    rw c.in_ok-push.ensures.ok (evaluated_more _ _ _ _ _ _ c.requires.within c.requires.so_far c.in_ok-apply.ensures.step c.in_ok-apply.ensures.state)
+    rw c.in_ok-push.ensures.ok (evaluated_more _ _ _ _ _ _ c.requires.plain_design c.requires.within c.requires.so_far c.in_ok-apply.ensures.step c.in_ok-apply.ensures.state c.in_ok-apply.ensures.plain)

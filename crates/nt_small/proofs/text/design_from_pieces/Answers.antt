@@ -1,8 +1,9 @@
 use Rattle.std.proofs.Common.{◌∙◌, arith, refl, sym, ap, subst, length, map}
 use Rattle.std.proofs.lemmas.List.{take_rest, length-map}
+use Rattle.nt_design.specs.Plain.{IsPlain}
 use Rattle.nt_design.specs.WellFormed.{IsDesign}
 use Rattle.nt_small.specs.Said.{item_of}
-use Rattle.nt_small.proofs.Designs.{design_is}
+use Rattle.nt_small.proofs.Designs.{design_is, design_plain}
 use Rattle.nt_small.proofs.Tokens.{source_of, no_source, few_items, spelled_by, spelled_allowed, spelled_is}
 use Rattle.nt_small.proofs.text.design_from_pieces.Goals as goal
 
@@ -42,3 +43,9 @@ returns-clause-well_formed c =
     let table = rw c.in-Some-3.is at c.in_ok-table.ensures.table in
     let s = source_of c.args.top.now c.in-Some.nettype.now (map item_of c.deref.result.now) in
     subst IsDesign (sym (c.in_ok-elaborate.ensures s refl table)) (design_is s table.sound (omega (arith, ap length table.names, c.len.ensures, c.if-len-gt-MOST_NETS.false)))
+
+pub returns-clause-plain : goal.returns-clause-plain
+returns-clause-plain c =
+    let table = rw c.in-Some-3.is at c.in_ok-table.ensures.table in
+    let s = source_of c.args.top.now c.in-Some.nettype.now (map item_of c.deref.result.now) in
+    subst IsPlain (sym (c.in_ok-elaborate.ensures s refl table)) (design_plain s table.sound)

@@ -1,0 +1,31 @@
+-- What a constant is to each fold over expressions.
+use Rattle.std.proofs.Common.{◌≡◌, List, [], ap}
+use Rattle.std.specs.Prelude.{Bool, false, Option, Some}
+use Rattle.std.specs.List.{list_any}
+use denote.Hole.Carrier.{roll}
+use Rattle.nt_value.specs.Values.{shape_of}
+use Rattle.nt_design.specs.Parts.{Value}
+use Rattle.nt_design.specs.Reads.{Other, others_step, reads_step, is_moment, has_time, reads_of}
+use Rattle.nt_design.specs.Rules.{constant_step, constant_of}
+use Rattle.nt_design.specs.Shapes.{Scope, Shaped, shape_step, tree_shape}
+use Rattle.nt_design.specs.declared.object.Object.{Object}
+use Rattle.nt_design.specs.declared.tree.Tree as tree
+use Rattle.nt_design.specs.declared.tree.Tree.TheViews.{roll-Tree}
+use Rattle.nt_design.specs.declared.tree.Tree.TheOpen.{Tree-F}
+use Rattle.nt_design.specs.declared.tree.Tree.TheFolds.{fold-roll-Tree}
+
+pub shape_const : (scope : Scope) (value : Value) → tree_shape scope (tree.Const value) ≡ Some (shape_of value)
+unfolding roll-Tree roll
+shape_const scope value = fold-roll-Tree Shaped (shape_step scope) (Tree-F.Const value)
+
+pub reads_const : (value : Value) → reads_of (tree.Const value) ≡ []
+unfolding roll-Tree roll
+reads_const value = fold-roll-Tree (List Object) reads_step (Tree-F.Const value)
+
+pub time_const : (value : Value) → has_time (tree.Const value) ≡ false
+unfolding roll-Tree roll
+time_const value = ap (list_any is_moment) (fold-roll-Tree (List Other) others_step (Tree-F.Const value))
+
+pub constant_const : (value : Value) → constant_of (tree.Const value) ≡ Some value
+unfolding roll-Tree roll
+constant_const value = fold-roll-Tree (Option Value) constant_step (Tree-F.Const value)
