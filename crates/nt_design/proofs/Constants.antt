@@ -1,6 +1,6 @@
 -- What a constant is to each fold over expressions.
 use Rattle.std.proofs.Common.{◌≡◌, List, [], ap}
-use Rattle.std.specs.Prelude.{Bool, false, Option, Some}
+use Rattle.std.specs.Prelude.{false, Option, Some}
 use Rattle.std.specs.List.{list_any}
 use denote.Hole.Carrier.{roll}
 use Rattle.nt_value.specs.Values.{shape_of}

@@ -21,10 +21,10 @@ split : (p : Object → Bool) (xs ys : List Object) → list_all p (xs ++ ys) �
 split p xs ys h = and_parts (list_all p xs) (list_all p ys) (sym (list_all-append p xs ys) ∙ h)
 
 -- equal parts give equal wholes
-two : {A B C : Type 0} (f : A → B → C) {x x' : A} {y y' : B} → x ≡ x' → y ≡ y' → f x y ≡ f x' y'
+pub two : {A B C : Type 0} (f : A → B → C) {x x' : A} {y y' : B} → x ≡ x' → y ≡ y' → f x y ≡ f x' y'
 two f {x} {x'} {y} {y'} p q = ap (λ z. f z y) p ∙ ap (f x') q
 
-three : {A B C D : Type 0} (f : A → B → C → D) {x x' : A} {y y' : B} {z z' : C} → x ≡ x' → y ≡ y' → z ≡ z' → f x y z ≡ f x' y' z'
+pub three : {A B C D : Type 0} (f : A → B → C → D) {x x' : A} {y y' : B} {z z' : C} → x ≡ x' → y ≡ y' → z ≡ z' → f x y z ≡ f x' y' z'
 three f {x} {x'} {y} {y'} {z} {z'} p q r = two (λ x y. f x y z) p q ∙ ap (f x' y') r
 
 -- what an expression gives, by its parts

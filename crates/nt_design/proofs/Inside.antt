@@ -1,6 +1,6 @@
 -- What parts are where no digit is outside, and what `&&` and `||` answer where the left operand decides.
 use Rattle.std.proofs.Common.{◌≡◌, ℕ, zero, suc, ◌+◌, ◌≤◌, List, [], ◌∷◌, ◌++◌, length, take, drop, refl, ap, sym, ◌∙◌, arith}
-use Rattle.std.proofs.lemmas.List.{drop-drop, append_assoc}
+use Rattle.std.proofs.lemmas.List.{drop-drop}
 use Rattle.std.specs.Prelude.{Bool, true, false, Some, pos, ◌||◌, if◌then◌else◌}
 use Rattle.nt_value.specs.Arithmetic.{padded}
 use Rattle.nt_value.specs.Digits.{LeafValue}

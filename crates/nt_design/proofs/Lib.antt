@@ -1,7 +1,11 @@
 pub mod Acts
+pub mod CallsFrame
+pub mod Does
 pub mod Examples
 pub mod Constants
 pub mod Frame
 pub mod Inside
+pub mod Results
 pub mod Shaped
 pub mod Values
+pub mod Writes

@@ -15,6 +15,7 @@ use Rattle.nt_value.specs.declared.operator.Binary.{Binary}
 use Rattle.nt_value.specs.declared.operator.Binary.TheVariants as op
 use Rattle.nt_value.specs.declared.operator.Unary.{Unary}
 use Rattle.nt_value.specs.declared.operator.Unary.TheVariants as unary
+use Rattle.nt_design.proofs.Frame.{two, three}
 use Rattle.nt_design.specs.Expressions.{World, Calls, tree_step, value_of, is_decided}
 use Rattle.nt_design.specs.Fitting.{Gives, LocalsFit, HasShapes}
 use Rattle.nt_design.specs.Parts.{Value, only, one, merged, concatenated, gathered, leaves_at, item_at, element_at, part_at, leaves_each, position_of, number_in, test_of, int_leaf, time_leaf}
@@ -29,7 +30,7 @@ use Rattle.nt_design.specs.declared.tree.Tree.TheFolds.{fold-roll-Tree, ind-Tree
 use Rattle.nt_design.specs.Turns.{Timed, Timing, and_then, by_one, by_two, all_of, pick}
 
 -- ---- options
-gives_then : {A B : Type 0} (m : Timed A) (go : A → ℕ → Timed B) (P : A → Type 0) (Q : B → Type 0) → Gives m P → ((x : A) (l : ℕ) → P x → Gives (go x l) Q) → Gives (and_then m go) Q
+pub gives_then : {A B : Type 0} (m : Timed A) (go : A → ℕ → Timed B) (P : A → Type 0) (Q : B → Type 0) → Gives m P → ((x : A) (l : ℕ) → P x → Gives (go x l) Q) → Gives (and_then m go) Q
 gives_then None go P Q h next = tt
 gives_then (Some p) go P Q h next = next p.0 p.1 h
 
@@ -37,23 +38,23 @@ abbrev IsEmpty : {A : Type 0} → Option A → Type 0
 IsEmpty None = ⊤
 IsEmpty (Some x) = ⊥
 
-nothing_there : {A B : Type 0} (x : A) → None ≡ Some x → B
+pub nothing_there : {A B : Type 0} (x : A) → None ≡ Some x → B
 nothing_there x h = absurd (subst IsEmpty h tt)
 
-some_back : {A : Type 0} (x y : A) → Some x ≡ Some y → x ≡ y
+pub some_back : {A : Type 0} (x y : A) → Some x ≡ Some y → x ≡ y
 some_back x y h = ap (λ o. unwrap_or o x) h
 
-on_shape_back : {A B : Type 0} (o : Option A) (go : A → Option B) (r : B) → on_shape o go ≡ Some r → (x : A) × (o ≡ Some x) × (go x ≡ Some r)
+pub on_shape_back : {A B : Type 0} (o : Option A) (go : A → Option B) (r : B) → on_shape o go ≡ Some r → (x : A) × (o ≡ Some x) × (go x ≡ Some r)
 on_shape_back None go r h = nothing_there r h
 on_shape_back (Some x) go r h = (x, refl, h)
 
-on_leaf_back : {B : Type 0} (o : Shaped) (go : Leaf → Option B) (r : B) → on_leaf o go ≡ Some r → (a : Leaf) × (o ≡ Some (a ∷ [])) × (go a ≡ Some r)
+pub on_leaf_back : {B : Type 0} (o : Shaped) (go : Leaf → Option B) (r : B) → on_leaf o go ≡ Some r → (a : Leaf) × (o ≡ Some (a ∷ [])) × (go a ≡ Some r)
 on_leaf_back None go r h = nothing_there r h
 on_leaf_back (Some []) go r h = nothing_there r h
 on_leaf_back (Some (a ∷ [])) go r h = (a, refl, h)
 on_leaf_back (Some (a ∷ b ∷ s)) go r h = nothing_there r h
 
-where_so_back : {A : Type 0} (b : Bool) (x r : A) → where_so b x ≡ Some r → (b ≡ true) × (x ≡ r)
+pub where_so_back : {A : Type 0} (b : Bool) (x r : A) → where_so b x ≡ Some r → (b ≡ true) × (x ≡ r)
 where_so_back true x r h = (refl, some_back x r h)
 where_so_back false x r h = nothing_there r h
 
@@ -61,17 +62,11 @@ abbrev IsFalse : Bool → Type 0
 IsFalse false = ⊤
 IsFalse true = ⊥
 
-false_is : {B : Type 0} → false ≡ true → B
+pub false_is : {B : Type 0} → false ≡ true → B
 false_is h = absurd (subst IsFalse h tt)
 
-two : {A B C : Type 0} (f : A → B → C) {x x' : A} {y y' : B} → x ≡ x' → y ≡ y' → f x y ≡ f x' y'
-two f {x} {x'} {y} {y'} p q = ap (λ z. f z y) p ∙ ap (f x') q
-
-three : {A B C D : Type 0} (f : A → B → C → D) {x x' : A} {y y' : B} {z z' : C} → x ≡ x' → y ≡ y' → z ≡ z' → f x y z ≡ f x' y' z'
-three f {x} {x'} {y} {y'} {z} {z'} p q r = two (λ x y. f x y z) p q ∙ ap (f x' y') r
-
 -- ---- values of one leaf
-only_leaf : (v : Value) (a : Leaf) → shape_of v ≡ a ∷ [] → (only v).leaf ≡ a
+pub only_leaf : (v : Value) (a : Leaf) → shape_of v ≡ a ∷ [] → (only v).leaf ≡ a
 only_leaf [] a h = absurd (omega (arith, ap length h))
 only_leaf (x ∷ xs) a h = ap (λ leaves. get_or leaves 0 a) h
 
@@ -117,15 +112,15 @@ unary_has unary.RedXor a = refl
 unary_has unary.RedXnor a = refl
 
 -- ---- leaves
-default_has : (s : List Leaf) → shape_of (default_value s) ≡ s
+pub default_has : (s : List Leaf) → shape_of (default_value s) ≡ s
 default_has [] = refl
 default_has (a ∷ s) = ap (λ rest. a ∷ rest) (default_has s)
 
-leaves_has : (first count : ℕ) (v : Value) → shape_of (leaves_at first count v) ≡ leaves_at first count (shape_of v)
+pub leaves_has : (first count : ℕ) (v : Value) → shape_of (leaves_at first count v) ≡ leaves_at first count (shape_of v)
 leaves_has first count v =
     sym (take-map (λ (x : LeafValue). x.leaf) count (drop first v)) ∙ ap (take count) (sym (drop-map (λ (x : LeafValue). x.leaf) first v))
 
-append_has : (v w : Value) → shape_of (v ++ w) ≡ shape_of v ++ shape_of w
+pub append_has : (v w : Value) → shape_of (v ++ w) ≡ shape_of v ++ shape_of w
 append_has [] w = refl
 append_has (x ∷ v) w = ap (λ rest. x.leaf ∷ rest) (append_has v w)
 
@@ -136,20 +131,20 @@ merged_has (x ∷ v) [] h = false_is h
 merged_has (x ∷ v) (y ∷ w) h = ap (λ rest. x.leaf ∷ rest) (merged_has v w (and_parts (is_same_leaf x.leaf y.leaf) (is_same_shape (shape_of v) (shape_of w)) h).1)
 
 -- ---- equal leaves
-beq_back : (a b : Bool) → beq a b ≡ true → a ≡ b
+pub beq_back : (a b : Bool) → beq a b ≡ true → a ≡ b
 beq_back true true h = refl
 beq_back false false h = refl
 beq_back true false h = false_is h
 beq_back false true h = false_is h
 
-leaf_back : (a b : Leaf) → is_same_leaf a b ≡ true → a ≡ b
+pub leaf_back : (a b : Leaf) → is_same_leaf a b ≡ true → a ≡ b
 leaf_back a b h =
     let outer = and_parts (a.width == b.width) (beq a.signed b.signed && beq a.four b.four) h in
     let inner = and_parts (beq a.signed b.signed) (beq a.four b.four) outer.1 in
     three {D = Leaf} (λ width signed four. record { width = width; signed = signed; four = four })
     (eqb-true a.width b.width outer.0) (beq_back a.signed b.signed inner.0) (beq_back a.four b.four inner.1)
 
-shape_back : (s r : List Leaf) → is_same_shape s r ≡ true → s ≡ r
+pub shape_back : (s r : List Leaf) → is_same_shape s r ≡ true → s ≡ r
 shape_back [] [] h = refl
 shape_back [] (b ∷ r) h = false_is h
 shape_back (a ∷ s) [] h = false_is h
@@ -158,10 +153,10 @@ shape_back (a ∷ s) (b ∷ r) h =
     two (λ x xs. x ∷ xs) (leaf_back a b parts.0) (shape_back s r parts.1)
 
 -- ---- elements
-abbrev repeated : ℕ → List Leaf → List Leaf
+abbrev pub repeated : ℕ → List Leaf → List Leaf
 repeated size e = flat_map (λ s. s) (replicate size e)
 
-one_of_repeated : (size position n : ℕ) (e : List Leaf) → length e ≡ n → position < size → leaves_at (position * n) n (repeated size e) ≡ e
+pub one_of_repeated : (size position n : ℕ) (e : List Leaf) → length e ≡ n → position < size → leaves_at (position * n) n (repeated size e) ≡ e
 one_of_repeated zero position n e same h = absurd (omega (arith, h))
 one_of_repeated (suc size) zero n e same h =
     ap (λ k. take n (drop k (e ++ repeated size e))) none_before
@@ -180,11 +175,11 @@ one_of_repeated (suc size) (suc position) n e same h =
     one_less = omega arith
 
 -- a position is inside its array
-abbrev InBounds : Option ℕ → ℕ → Type 0
+abbrev pub InBounds : Option ℕ → ℕ → Type 0
 InBounds None size = ⊤
 InBounds (Some position) size = position < size
 
-not_back : (b : Bool) → not b ≡ true → b ≡ false
+pub not_back : (b : Bool) → not b ≡ true → b ≡ false
 not_back true h = false_is h
 not_back false h = refl
 
@@ -196,7 +191,7 @@ either_below : (up : Bool) (a b size : ℕ) → a < size → b < size → (if up
 either_below true a b size p q = p
 either_below false a b size p q = q
 
-position_in : (low size : ℕ) (up : Bool) (i : Option ℤ) → InBounds (position_of low size up i) size
+pub position_in : (low size : ℕ) (up : Bool) (i : Option ℤ) → InBounds (position_of low size up i) size
 position_in low size up None = tt
 position_in low size up (Some (negsuc i)) = tt
 position_in low size up (Some (pos i)) =
@@ -210,10 +205,10 @@ position_in low size up (Some (pos i)) =
         either_below up (i - low) (low + (size - 1) - i) size (omega (arith, least, most)) (omega (arith, least, most))
 
 -- an element has the leaves of the first one
-each_has : (size : ℕ) (v : Value) (s : List Leaf) → shape_of v ≡ s → leaves_each size v ≡ leaves_each size s
+pub each_has : (size : ℕ) (v : Value) (s : List Leaf) → shape_of v ≡ s → leaves_each size v ≡ leaves_each size s
 each_has size v s h = ap (λ k. k / size) (sym (length-map v (λ (x : LeafValue). x.leaf)) ∙ ap length h)
 
-item_has : (size : ℕ) (position : Option ℕ) (v : Value) (s r : List Leaf) → shape_of v ≡ s → item_shape size s ≡ Some r → InBounds position size → shape_of (item_at size position v) ≡ r
+pub item_has : (size : ℕ) (position : Option ℕ) (v : Value) (s r : List Leaf) → shape_of v ≡ s → item_shape size s ≡ Some r → InBounds position size → shape_of (item_at size position v) ≡ r
 item_has size None v s r h is inside =
     let parts = where_so_back (nat_lt 0 size && is_same_shape s (repeated size (element_shape size s))) (element_shape size s) r is in
     default_has (shape_of (take (leaves_each size v) v))
@@ -231,25 +226,25 @@ item_has size (Some position) v s r h is inside =
     few = div-le_self (length s) size
 
 -- ---- what comes out
-gives_one : {A B : Type 0} (f : A → B) (m : Timing A) (P : A → Type 0) (Q : B → Type 0) (locals : List Value) (left : ℕ) → Gives (m locals left) P → ((x : A) → P x → Q (f x)) → Gives (by_one f m locals left) Q
+pub gives_one : {A B : Type 0} (f : A → B) (m : Timing A) (P : A → Type 0) (Q : B → Type 0) (locals : List Value) (left : ℕ) → Gives (m locals left) P → ((x : A) → P x → Q (f x)) → Gives (by_one f m locals left) Q
 gives_one f m P Q locals left h next = gives_then (m locals left) (λ x l. Some (f x, l)) P Q h (λ x l p. next x p)
 
-gives_two : {A B C : Type 0} (f : A → B → C) (m : Timing A) (n : Timing B) (P : A → Type 0) (Q : B → Type 0) (R : C → Type 0) (locals : List Value) (left : ℕ) → Gives (m locals left) P → ((l : ℕ) → Gives (n locals l) Q) → ((x : A) (y : B) → P x → Q y → R (f x y)) → Gives (by_two f m n locals left) R
+pub gives_two : {A B C : Type 0} (f : A → B → C) (m : Timing A) (n : Timing B) (P : A → Type 0) (Q : B → Type 0) (R : C → Type 0) (locals : List Value) (left : ℕ) → Gives (m locals left) P → ((l : ℕ) → Gives (n locals l) Q) → ((x : A) (y : B) → P x → Q y → R (f x y)) → Gives (by_two f m n locals left) R
 gives_two f m n P Q R locals left h k next =
     gives_then (m locals left) (λ x l. and_then (n locals l) (λ y k. Some (f x y, k))) P R h
     (λ x l p. gives_then (n locals l) (λ y k. Some (f x y, k)) Q R (k l) (λ y j q. next x y p q))
 
-gives_pick : {A : Type 0} (d : Digit) (m n o : Timed A) (P : A → Type 0) → Gives m P → Gives n P → Gives o P → Gives (pick d m n o) P
+pub gives_pick : {A : Type 0} (d : Digit) (m n o : Timed A) (P : A → Type 0) → Gives m P → Gives n P → Gives o P → Gives (pick d m n o) P
 gives_pick Zero m n o P p q r = q
 gives_pick One m n o P p q r = p
 gives_pick X m n o P p q r = r
 gives_pick Z m n o P p q r = r
 
-call_back : (o : Option Function) (args : List Shaped) (s : List Leaf) → call_shape o args ≡ Some s → (f : Function) × (o ≡ Some f) × (where_so (not f.many && are_shapes args f.args) f.result ≡ Some s)
+pub call_back : (o : Option Function) (args : List Shaped) (s : List Leaf) → call_shape o args ≡ Some s → (f : Function) × (o ≡ Some f) × (where_so (not f.many && are_shapes args f.args) f.result ≡ Some s)
 call_back None args s h = nothing_there s h
 call_back (Some f) args s h = (f, refl, h)
 
-gives_if : {A : Type 0} (b : Bool) (m n : Timed A) (P : A → Type 0) → (b ≡ true → Gives m P) → Gives n P → Gives (if b then m else n) P
+pub gives_if : {A : Type 0} (b : Bool) (m n : Timed A) (P : A → Type 0) → (b ≡ true → Gives m P) → Gives n P → Gives (if b then m else n) P
 gives_if true m n P h k = h refl
 gives_if false m n P h k = k
 
@@ -279,12 +274,12 @@ decided_has op.LogicalAnd d a b h k = ap (unsigned_leaf 1) (or_same a.four b.fou
 decided_has op.LogicalOr d a b h k = ap (unsigned_leaf 1) (or_same a.four b.four (beq_back a.four b.four k))
 
 -- a shape that is there and the same as another is that one
-is_shape_back : (o : Shaped) (s : List Leaf) → is_shape o s ≡ true → o ≡ Some s
+pub is_shape_back : (o : Shaped) (s : List Leaf) → is_shape o s ≡ true → o ≡ Some s
 is_shape_back None s h = false_is h
 is_shape_back (Some r) s h = ap (λ x. Some x) (shape_back r s h)
 
 -- the value of an expression, by its parts
-opened : (calls : Calls) (world : World) (x : Tree-F Tree) → value_of calls world (roll-Tree x) ≡ tree_step calls world (map-Tree Tree (Timing Value) (value_of calls world) x)
+pub opened : (calls : Calls) (world : World) (x : Tree-F Tree) → value_of calls world (roll-Tree x) ≡ tree_step calls world (map-Tree Tree (Timing Value) (value_of calls world) x)
 unfolding value_of
 opened calls world x = fold-roll-Tree (Timing Value) (tree_step calls world) x
 

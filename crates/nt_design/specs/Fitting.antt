@@ -3,9 +3,12 @@ use Rattle.std.specs.Prelude.{◌≡◌, ⊤, ℕ, false, List, [], map, Some, N
 use Rattle.nt_value.specs.Values.{shape_of, default_value}
 use Rattle.nt_value.specs.declared.leaf.Leaf.{Leaf}
 use Rattle.nt_design.specs.Expressions.{World, Calls, object_in, value_of}
+use Rattle.nt_design.specs.Meaning.{calls_to}
 use Rattle.nt_design.specs.Parts.{Value}
 use Rattle.nt_design.specs.Shapes.{Scope, object_shape, tree_shape}
 use Rattle.nt_design.specs.Turns.{Timed}
+use Rattle.nt_design.specs.WellFormed.{IsDesign, MayCall}
+use Rattle.nt_design.specs.declared.design.Design.{Design}
 use Rattle.nt_design.specs.declared.function.Function.{Function}
 use Rattle.nt_design.specs.declared.object.Object.{Object}
 use Rattle.nt_design.specs.declared.tree.Tree.{Tree}
@@ -32,3 +35,10 @@ ValuesFit =
     (scope : Scope) (calls : Calls) (world : World) (tree : Tree) (shape : List Leaf) (locals : List Value) (left : ℕ) →
     HasShapes scope calls world → tree_shape scope tree ≡ Some shape → LocalsFit scope locals →
     Gives (value_of calls world tree locals left) (λ v. shape_of v ≡ shape)
+
+-- what a function of a well-formed design gives has the leaves of its result, where it may be called with such values
+abbrev pub ResultsFit : Type 0
+ResultsFit =
+    (d : Design) (depth f : ℕ) (function : Function) (args : List Value) (left : ℕ) →
+    IsDesign d → slice_get d.functions f ≡ Some function → MayCall d function args →
+    Gives (calls_to d.functions depth f args left) (λ v. shape_of v ≡ function.result)

@@ -1,6 +1,6 @@
 -- The designs that the program takes today: without variables and procedures, with nets that have no resolution function
 -- and are driven whole, by constants.
-use Rattle.std.specs.Prelude.{◌≡◌, ℕ, List, [], map, length, Some, slice_get}
+use Rattle.std.specs.Prelude.{◌≡◌, ℕ, [], map, length, Some, slice_get}
 use Rattle.std.specs.List.{range_with_len}
 use Rattle.nt_design.specs.Parts.{Value}
 use Rattle.nt_design.specs.WellFormed.{named_objects}

@@ -1,5 +1,5 @@
 -- What expressions and statements read, write and call, as far as their text tells.
-use Rattle.std.specs.Prelude.{ℕ, Bool, true, false, not, List, [], ◌∷◌, ◌++◌, map, filter, Option, Some, None}
+use Rattle.std.specs.Prelude.{ℕ, Bool, true, false, List, [], ◌∷◌, ◌++◌, map, filter, Option, Some, None}
 use Rattle.std.specs.List.{flat_map, list_all, list_any}
 use Rattle.nt_value.specs.declared.kind.Edge.{Edge}
 use Rattle.nt_design.specs.declared.object.Object.{Object}

@@ -1,5 +1,5 @@
 // Laws of the definitions.
-ghost use Rattle.nt_design.specs.Fitting.{ValuesFit};
+ghost use Rattle.nt_design.specs.Fitting.{ResultsFit, ValuesFit};
 ghost use Rattle.nt_design.specs.Worlds.{ReadsDecide};
 
 /// Does nothing. It says that the value of an expression depends on nothing but the objects that it reads, the moment,
@@ -12,4 +12,9 @@ pub fn reads_decide()
 /// has those of theirs.
 pub fn values_fit()
     ensures { ValuesFit }
+{}
+
+/// Does nothing. It says that what a function of a well-formed design gives has the leaves of its result.
+pub fn results_fit()
+    ensures { ResultsFit }
 {}

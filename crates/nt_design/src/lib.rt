@@ -22,7 +22,7 @@ pub use copies_of_acts::{copy_act, copy_target, copy_trees};
 pub use design::{Design, Scoped};
 pub use env::{Env, Stop, meaning};
 pub use function::Function;
-pub use laws::{reads_decide, values_fit};
+pub use laws::{reads_decide, results_fit, values_fit};
 pub use nt_value::{Edge, ProcKind};
 pub use object::{Net, NetKind, Object, Var};
 pub use process::{Assign, Proc};
