@@ -1,10 +1,9 @@
 -- How many copies of an event a state of nets and constants can have in Active.
-use Rattle.std.proofs.Common.{◌≡◌, ℕ, zero, suc, ◌+◌, ◌≤◌, Bool, true, false, if◌then◌else◌, List, [], ◌∷◌, length, get_or, replicate, Some, sym, ◌∙◌, ap, subst, arith}
+use Rattle.std.proofs.Common.{◌≡◌, ℕ, zero, suc, ◌+◌, ◌≤◌, Bool, true, false, if◌then◌else◌, List, [], ◌∷◌, length, replicate, Some, sym, ◌∙◌, ap, subst, arith}
 use Rattle.std.proofs.lemmas.Option.{none-some}
-use Rattle.nt_design.specs.Parts.{Value}
 use Rattle.nt_design.specs.declared.design.Design.{Design}
 use Rattle.nt_design.specs.Plain.{IsPlain}
-use Rattle.nt_machine.specs.Plain.{IsPlainState, driven_plain, published_plain}
+use Rattle.nt_machine.specs.Plain.{IsPlainState}
 use Rattle.nt_machine.specs.Same.{is_same}
 use Rattle.nt_machine.specs.State.{MachineState, start_state, place_at, value_at, count_at, more, fewer}
 use Rattle.nt_machine.specs.StateFits.{AtMost}

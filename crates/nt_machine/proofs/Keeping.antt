@@ -176,7 +176,7 @@ activate_fits d s is = record {
   fresh = is.fresh;
   evaluations = is.evaluations;
   resolutions = is.resolutions;
-  procs = λ p proc at. let x = is.procs p proc at in record { items = x.items; place = subst (λ (place : Place). PlaceFits s.moment (items_at s p) place) (sym (place_mapped activated refl s.places p)) (activated_fits s.moment (items_at s p) (place_at s p) x.place); inside = x.inside };
+  procs = λ p proc at. let x = is.procs p proc at in record { items = x.items; place = subst (λ (place : Place). PlaceFits s.moment (items_at s p) place) (sym (place_mapped activated refl s.places p)) (activated_fits s.moment (items_at s p) (place_at s p) x.place); inside = x.inside; called = x.called };
   nonblocking = is.nonblocking;
   moved = is.moved;
 }
@@ -192,7 +192,7 @@ updates_fit d s is = record {
   fresh = is.fresh;
   evaluations = is.evaluations;
   resolutions = is.resolutions;
-  procs = λ p proc at. let x = is.procs p proc at in record { items = x.items; place = x.place; inside = x.inside };
+  procs = λ p proc at. let x = is.procs p proc at in record { items = x.items; place = x.place; inside = x.inside; called = x.called };
   nonblocking = λ k put low. absurd (omega (arith, low));
   moved = is.nonblocking;
 }
@@ -208,7 +208,7 @@ slot_fits d s m is next = record {
   fresh = is.fresh;
   evaluations = is.evaluations;
   resolutions = is.resolutions;
-  procs = λ p proc at. let x = is.procs p proc at in record { items = x.items; place = subst (λ (place : Place). PlaceFits m (items_at s p) place) (sym (place_mapped (arrived m) refl s.places p)) (arrived_fits s.moment m (items_at s p) (place_at s p) (λ k there. least s.places m p k next there) x.place); inside = x.inside };
+  procs = λ p proc at. let x = is.procs p proc at in record { items = x.items; place = subst (λ (place : Place). PlaceFits m (items_at s p) place) (sym (place_mapped (arrived m) refl s.places p)) (arrived_fits s.moment m (items_at s p) (place_at s p) (λ k there. least s.places m p k next there) x.place); inside = x.inside; called = x.called };
   nonblocking = is.nonblocking;
   moved = is.moved;
 }

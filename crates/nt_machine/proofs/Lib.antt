@@ -2,6 +2,7 @@ pub mod Again
 pub mod Combs
 pub mod Counts
 pub mod Equations
+pub mod EventKeeps
 pub mod Examples
 pub mod Filling
 pub mod Keeping
@@ -9,6 +10,7 @@ pub mod Marks
 pub mod Moves
 pub mod Orders
 pub mod InActive
+pub mod ProcKeeps
 pub mod RoundSteps
 pub mod RoundsOfMarks
 pub mod Sames
@@ -16,8 +18,11 @@ pub mod SmallCases
 pub mod StartFitting
 pub mod Starting
 pub mod Starts
+pub mod StepKeeps
 pub mod Steps
 pub mod Sums
 pub mod TwoNets
 pub mod Unfolding
+pub mod ValueKeeps
 pub mod Waits
+pub mod WakeKeeps

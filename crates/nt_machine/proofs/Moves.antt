@@ -1,12 +1,12 @@
 -- Moves of states of nets and constants, which have nowhere to move, and the slots that end in their executions.
-use Rattle.std.proofs.Common.{◌≡◌, ℕ, zero, suc, Bool, true, false, ◌||◌, ◌&&◌, not, nat_lt, if◌then◌else◌, List, [], ◌∷◌, ◌++◌, get_or, Option, Some, None, option_and_then, unwrap_or, is_some, refl, sym, ◌∙◌, ap, subst}
+use Rattle.std.proofs.Common.{◌≡◌, ℕ, zero, suc, Bool, true, false, ◌||◌, ◌&&◌, not, nat_lt, if◌then◌else◌, List, [], ◌∷◌, ◌++◌, Option, Some, None, option_and_then, unwrap_or, is_some, refl, sym, ◌∙◌, ap, subst}
 use Rattle.std.specs.List.{list_any}
 use Rattle.std.proofs.lemmas.Bool.{false≢true}
 use Rattle.std.proofs.lemmas.Option.{same_Some, none-some}
 use Rattle.nt_design.specs.declared.design.Design.{Design}
 use Rattle.nt_machine.specs.State.{MachineState, count_at}
 use Rattle.nt_machine.specs.Step.{step, is_pending_at, is_some_put}
-use Rattle.nt_machine.specs.Execution.{Observation, settle, move, is_active, is_inactive, has_inactive, activate, move_updates, begin_next, next_moment, run, ended, seen, if_some, is_over, observation_of}
+use Rattle.nt_machine.specs.Execution.{settle, move, is_active, is_inactive, has_inactive, activate, move_updates, begin_next, next_moment, run, ended, seen, if_some, observation_of}
 use Rattle.nt_design.specs.Plain.{IsPlain}
 use Rattle.nt_machine.specs.Plain.{IsPlainState}
 use Rattle.nt_machine.specs.declared.event.Event.{Event}

@@ -7,7 +7,7 @@ use Rattle.std.proofs.lemmas.List.Elements.{All-append, All-cons, All-head, All-
 use Rattle.std.proofs.lemmas.Option.{same_Some}
 use Rattle.nt_value.specs.Values.{shape_of, default_value}
 use Rattle.nt_value.specs.declared.leaf.Leaf.{Leaf}
-use Rattle.nt_design.specs.Reads.{act_reads, act_writes}
+use Rattle.nt_design.specs.Reads.{act_calls, act_reads, act_writes}
 use Rattle.nt_design.specs.Rules.{act_fits}
 use Rattle.nt_design.specs.Shapes.{Scope}
 use Rattle.nt_design.specs.WellFormed.{IsDesign, IsProc, is_written_in, scope_with, sensitive_to}
@@ -30,11 +30,11 @@ use Rattle.nt_design.specs.declared.target.Target.{Target}
 use Rattle.nt_design.specs.declared.target.Target.TheVariants as target
 use denote.Hole.Carrier.{roll}
 use Rattle.nt_machine.proofs.Equations.{to_do_block}
-use Rattle.nt_machine.proofs.Starting.{Inside, none_in, unfolded_fit, unfolded_uses}
+use Rattle.nt_machine.proofs.Starting.{Inside, none_in, unfolded_calls, unfolded_fit, unfolded_uses}
 use Rattle.nt_machine.specs.Laws.{StartFits}
 use Rattle.nt_machine.specs.Rounds.{var_in, used_by_proc}
 use Rattle.nt_machine.specs.State.{Item, Do, Repeating, Awaiting, Unbegun, Ready, Over, to_do, unfolded, is_comb, start_items, start_state, slot_start, net_start, z_value, place_at}
-use Rattle.nt_machine.specs.StateFits.{ItemFits, ProcFits, PlaceFits, HasWork, slot_shape, used_by_item}
+use Rattle.nt_machine.specs.StateFits.{ItemFits, ProcFits, PlaceFits, HasWork, slot_shape, called_by_item, used_by_item}
 
 -- ---- columns
 map_twice : {A B C : Type 0} (f : B → C) (g : A → B) (xs : List A) → map f (map g xs) ≡ map (λ x. f (g x)) xs
@@ -58,7 +58,7 @@ default_shape : (shape : List Leaf) → shape_of (default_value shape) ≡ shape
 default_shape [] = refl
 default_shape (leaf ∷ shape) = ap (λ l. leaf ∷ l) (default_shape shape)
 
-z_shape : (shape : List Leaf) → shape_of (z_value shape) ≡ shape
+pub z_shape : (shape : List Leaf) → shape_of (z_value shape) ≡ shape
 z_shape [] = refl
 z_shape (leaf ∷ shape) = ap (λ l. leaf ∷ l) (z_shape shape)
 
@@ -79,7 +79,7 @@ slot_at d (target.Local i path) = refl
 
 -- ---- what is to do first
 module _ where
-  abbrev Begins : Act → Type 0
+  abbrev pub Begins : Act → Type 0
   Begins act = (rest : List Item) → HasWork (to_do act ++ rest)
 
   abbrev Below : Type 0
@@ -99,10 +99,10 @@ module _ where
       subst (λ items. HasWork (items ++ rest)) (sym (to_do_block b.0 (map (λ (e : Below). e.0) bs) at)) (subst HasWork (sym (append_assoc (to_do b.0) (flat_map to_do (map (λ (e : Below). e.0) bs)) rest)) (b.1 (flat_map to_do (map (λ (e : Below). e.0) bs) ++ rest)))
   rolled y rest = alone (map-Act Below Act (λ e. e.0) y) refl rest
 
-  begins : (act : Act) → Begins act
+  pub begins : (act : Act) → Begins act
   begins = ind-Act Begins (λ x y is. subst (λ z. Begins (roll-Act z)) is (rolled y))
 
-begins_alone : (act : Act) → HasWork (to_do act)
+pub begins_alone : (act : Act) → HasWork (to_do act)
 begins_alone act = subst HasWork (none_after (to_do act)) (begins act [])
   where
     none_after : (items : List Item) → items ++ [] ≡ items
@@ -184,12 +184,13 @@ wait_uses : (V : ℕ → Type 0) (p : Proc) → Inside V (flat_map var_in p.read
 wait_uses V p reads is v x =
     elim (Contains-append_cases (flat_map var_in p.reads) (used_by_proc p ++ []) v x) [ inl a ↦ reads v a | inr b ↦ body_uses V p is v b ]
 
-all_inside : (V : ℕ → Type 0) (items : List Item) → All (λ i. Inside V (used_by_item i)) items → Inside V (flat_map used_by_item items)
-all_inside V [] h v x = none_in v (V v) x
-all_inside V (i ∷ items) h v x =
-    elim (Contains-append_cases (used_by_item i) (flat_map used_by_item items) v x) [
-      | inl a ↦ All-head (λ i. Inside V (used_by_item i)) i items h v a
-      | inr b ↦ all_inside V items (All-tail (λ i. Inside V (used_by_item i)) i items h) v b
+-- what holds of what each item has holds of what they have together
+pub all_inside : {A : Type 0} (f : A → List ℕ) (V : ℕ → Type 0) (items : List A) → All (λ i. Inside V (f i)) items → Inside V (flat_map f items)
+all_inside f V [] h v x = none_in v (V v) x
+all_inside f V (i ∷ items) h v x =
+    elim (Contains-append_cases (f i) (flat_map f items) v x) [
+      | inl a ↦ All-head (λ j. Inside V (f j)) i items h v a
+      | inr b ↦ all_inside f V items (All-tail (λ j. Inside V (f j)) i items h) v b
     ]
 
 start_uses : (V : ℕ → Type 0) (kind : ProcKind) (p : Proc) → Inside V (used_by_proc p) → (kind ≡ Comb → Inside V (flat_map var_in p.reads)) → All (λ i. Inside V (used_by_item i)) (start_items kind p)
@@ -202,17 +203,34 @@ start_uses V Comb p is reads =
     All-append (λ i. Inside V (used_by_item i)) (to_do p.body) (Awaiting p.reads p.body ∷ []) (unfolded_uses V p.body is)
     (All-cons (λ i. Inside V (used_by_item i)) (Awaiting p.reads p.body) [] (wait_uses V p (reads refl) is) (λ k i low. absurd (omega (arith, low))))
 
+-- ---- what is called first
+body_calls : (V : ℕ → Type 0) (act : Act) → Inside V (act_calls act) → Inside V (act_calls act ++ [])
+body_calls V act is v x =
+    elim (Contains-append_cases (act_calls act) [] v x) [ inl a ↦ is v a | inr b ↦ none_in v (V v) b ]
+
+start_calls : (V : ℕ → Type 0) (kind : ProcKind) (p : Proc) → Inside V (act_calls p.body) → All (λ i. Inside V (called_by_item i)) (start_items kind p)
+start_calls V Initial p is = unfolded_calls V p.body is
+start_calls V Always p is =
+    All-cons (λ i. Inside V (called_by_item i)) (Repeating p.body) [] (body_calls V p.body is) (λ k i low. absurd (omega (arith, low)))
+start_calls V Ff p is =
+    All-cons (λ i. Inside V (called_by_item i)) (Repeating p.body) [] (body_calls V p.body is) (λ k i low. absurd (omega (arith, low)))
+start_calls V Comb p is =
+    All-append (λ i. Inside V (called_by_item i)) (to_do p.body) (Awaiting p.reads p.body ∷ []) (unfolded_calls V p.body is)
+    (All-cons (λ i. Inside V (called_by_item i)) (Awaiting p.reads p.body) [] (body_calls V p.body is) (λ k i low. absurd (omega (arith, low))))
+
 -- ---- the state
 start_proc : (d : Design) → IsDesign d → (p : ℕ) (proc : Proc) → slice_get d.procs p ≡ Some proc → ProcFits d (start_state d) p proc
 start_proc d design p proc at =
     let is = design.procs p proc at in
     let items = got (λ (x : Proc). start_items x.kind x) [] d.procs p proc at in
     let place = got (λ (x : Proc). if is_comb x.kind then Unbegun else Ready) Over d.procs p proc at in
-    let uses : (v : ℕ) → Contains (flat_map used_by_item (start_items proc.kind proc)) v → Contains (used_by_proc proc) v = all_inside (λ v. Contains (used_by_proc proc) v) (start_items proc.kind proc) (start_uses (λ v. Contains (used_by_proc proc) v) proc.kind proc (λ v x. x) (λ comb v x. Contains-append_left (flat_map var_in (act_reads proc.body)) (act_writes proc.body) v (comb_reads d proc v comb is x))) in
+    let uses : (v : ℕ) → Contains (flat_map used_by_item (start_items proc.kind proc)) v → Contains (used_by_proc proc) v = all_inside used_by_item (λ v. Contains (used_by_proc proc) v) (start_items proc.kind proc) (start_uses (λ v. Contains (used_by_proc proc) v) proc.kind proc (λ v x. x) (λ comb v x. Contains-append_left (flat_map var_in (act_reads proc.body)) (act_writes proc.body) v (comb_reads d proc v comb is x))) in
+    let calls : (f : ℕ) → Contains (flat_map called_by_item (start_items proc.kind proc)) f → Contains (act_calls proc.body) f = all_inside called_by_item (λ f. Contains (act_calls proc.body) f) (start_items proc.kind proc) (start_calls (λ f. Contains (act_calls proc.body) f) proc.kind proc (λ f x. x)) in
     record {
       items = subst (All (ItemFits (scope_with d proc.locals None))) (sym items) (start_fit (scope_with d proc.locals None) proc.kind proc is.fits);
       place = subst (λ (l : List Item). PlaceFits 0 l (place_at (start_state d) p)) (sym items) (subst (PlaceFits 0 (start_items proc.kind proc)) (sym place) (start_place proc.kind proc));
       inside = subst (λ (l : List Item). (v : ℕ) → Contains (flat_map used_by_item l) v → Contains (used_by_proc proc) v) (sym items) uses;
+      called = subst (λ (l : List Item). (f : ℕ) → Contains (flat_map called_by_item l) f → Contains (act_calls proc.body) f) (sym items) calls;
     }
 
 pub start_fits : StartFits

@@ -1,26 +1,26 @@
 -- The start state is one of its design.
-use Rattle.std.proofs.Common.{◌≡◌, ℕ, Bool, true, List, [], ◌∷◌, ◌++◌, map, ap, sym, subst, ◌∙◌, arith, inl, inr}
+use Rattle.std.proofs.Common.{◌≡◌, ℕ, Bool, true, List, [], ◌∷◌, ◌++◌, map, refl, ap, sym, subst, ◌∙◌, arith, inl, inr}
 use Rattle.std.specs.Prelude.{All, Contains, None}
 use Rattle.std.specs.List.{flat_map, list_all}
 use Rattle.std.proofs.lemmas.Bool.{and_parts}
 use Rattle.std.proofs.lemmas.Grind.{flat_map-append}
 use Rattle.std.proofs.lemmas.List.Elements.{All-cons, All-head, All-tail, Contains-append_cases, Contains-append_left, Contains-append_right}
 use Rattle.nt_value.specs.declared.place.Place.{Place as TextPlace}
-use Rattle.nt_design.specs.Reads.{joined, act_reads, act_writes, reads_of, trees_of, trees_step, targets_of, targets_step, written_vars}
+use Rattle.nt_design.specs.Reads.{joined, act_calls, act_reads, act_writes, called_step, calls_of, reads_of, trees_of, trees_step, targets_of, targets_step, written_vars}
 use Rattle.nt_design.specs.Rules.{act_fits, fits_step}
 use Rattle.nt_design.specs.Shapes.{Scope}
 use Rattle.nt_design.specs.declared.act.Act.{Act}
 use Rattle.nt_design.specs.declared.act.Act.TheViews as view
 use Rattle.nt_design.specs.declared.act.Act.TheViews.{roll-Act}
 use Rattle.nt_design.specs.declared.act.Act.TheOpen.{Act-F}
-use Rattle.nt_design.specs.declared.act.Act.TheFolds.{fold-roll-Act}
+use Rattle.nt_design.specs.declared.act.Act.TheFolds.{fold-Act, fold-roll-Act}
 use Rattle.nt_design.specs.declared.target.Target.{Target}
 use Rattle.nt_design.specs.declared.tree.Tree.{Tree}
 use denote.Hole.Carrier.{roll}
 use Rattle.nt_machine.proofs.Unfolding.{all_unfold}
 use Rattle.nt_machine.specs.Rounds.{var_in}
 use Rattle.nt_machine.specs.State.{Do, to_do}
-use Rattle.nt_machine.specs.StateFits.{ItemFits, used_by_item}
+use Rattle.nt_machine.specs.StateFits.{ItemFits, called_by_item, used_by_item}
 
 -- ---- what fits
 each_true : (f : Act → Bool) (acts : List Act) → list_all (λ b. b) (map f acts) ≡ true → All (λ a. f a ≡ true) acts
@@ -87,4 +87,34 @@ unfolded_uses V act is =
     (record {
       reads = λ v x. is v (Contains-append_left (flat_map var_in (act_reads act)) (act_writes act) v x);
       writes = λ v x. is v (Contains-append_right (flat_map var_in (act_reads act)) (act_writes act) v x);
+    })
+
+-- ---- what is called
+record CallsIn (V : ℕ → Type 0) (act : Act) : Type 0 where
+  own : Inside V (fold-Act (List ℕ) called_step act)
+  inner : Inside V (flat_map calls_of (trees_of act))
+
+both_called : (V : ℕ → Type 0) (acts : List Act) → All (λ a. Inside V (fold-Act (List ℕ) called_step a)) acts → All (λ a. Inside V (flat_map calls_of (trees_of a))) acts → All (CallsIn V) acts
+both_called V acts o i k a low = record { own = o k a low; inner = i k a low }
+
+block_calls : (V : ℕ → Type 0) (acts : List Act) (at : TextPlace) → CallsIn V (view.Block acts at) → All (CallsIn V) acts
+unfolding roll-Act roll
+block_calls V acts at u =
+    both_called V acts
+    (parts_inside V (λ (xs : List ℕ). xs) (λ xs ys. refl) (fold-Act (List ℕ) called_step) acts (subst (Inside V) (fold-roll-Act (List ℕ) called_step (Act-F.Block acts at)) u.own))
+    (parts_inside V (flat_map calls_of) (flat_map-append calls_of) trees_of acts (subst (λ ts. Inside V (flat_map calls_of ts)) (fold-roll-Act (List Tree) trees_step (Act-F.Block acts at)) u.inner))
+
+statement_calls : (V : ℕ → Type 0) (act : Act) → CallsIn V act → Inside V (called_by_item (Do act))
+statement_calls V act u v x =
+    elim (Contains-append_cases (act_calls act) [] v x) [
+      | inl y ↦ elim (Contains-append_cases (fold-Act (List ℕ) called_step act) (flat_map calls_of (trees_of act)) v y) [ inl o ↦ u.own v o | inr i ↦ u.inner v i ]
+      | inr y ↦ none_in v (V v) y
+    ]
+
+pub unfolded_calls : (V : ℕ → Type 0) (act : Act) → Inside V (act_calls act) → All (λ i. Inside V (called_by_item i)) (to_do act)
+unfolded_calls V act is =
+    all_unfold (λ i. Inside V (called_by_item i)) (CallsIn V) (block_calls V) (statement_calls V) act
+    (record {
+      own = λ v x. is v (Contains-append_left (fold-Act (List ℕ) called_step act) (flat_map calls_of (trees_of act)) v x);
+      inner = λ v x. is v (Contains-append_right (fold-Act (List ℕ) called_step act) (flat_map calls_of (trees_of act)) v x);
     })

@@ -1,7 +1,6 @@
 -- The start of a design of nets and constants.
-use Rattle.std.proofs.Common.{◌≡◌, ℕ, zero, suc, List, [], ◌∷◌, map, get_or, Some, slice_get, if◌then◌else◌, Bool, false, not, length, replicate, refl, ◌∙◌, ap, sym}
+use Rattle.std.proofs.Common.{◌≡◌, ℕ, zero, suc, List, [], ◌∷◌, map, get_or, Some, slice_get, if◌then◌else◌, false, not, length, replicate, refl, ◌∙◌, ap, sym}
 use Rattle.nt_value.specs.Values.{default_value}
-use Rattle.nt_value.specs.declared.leaf.Leaf.{Leaf}
 use Rattle.nt_design.specs.Parts.{Value}
 use Rattle.nt_design.specs.declared.design.Design.{Design}
 use Rattle.nt_design.specs.declared.object.Net.{Net}

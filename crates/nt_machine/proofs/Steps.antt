@@ -1,6 +1,6 @@
 -- Designs of nets and constants: when an event is allowed, and what it then leaves.
-use Rattle.std.proofs.Common.{◌≡◌, ◌↔◌, ◌⊎◌, inl, inr, ℕ, zero, suc, ◌+◌, ◌<◌, ◌≤◌, Bool, true, false, not, ◌&&◌, ◌||◌, ◌==◌, nat_lt, if◌then◌else◌, List, [], ◌∷◌, length, get_or, map, Option, Some, None, slice_get, IsSome, IsTrue, option_and_then, option_map, is_some, refl, sym, ◌∙◌, ap, subst, arith, lt-ltb, ltb-true, length-set}
-use Rattle.std.specs.List.{list_any, range_with_len}
+use Rattle.std.proofs.Common.{◌≡◌, ◌↔◌, ◌⊎◌, inl, inr, ℕ, zero, suc, ◌+◌, ◌<◌, ◌≤◌, Bool, true, false, not, ◌&&◌, ◌==◌, nat_lt, if◌then◌else◌, List, [], ◌∷◌, length, get_or, map, Option, Some, None, slice_get, IsSome, IsTrue, option_and_then, option_map, is_some, refl, sym, ◌∙◌, ap, subst, arith, lt-ltb, ltb-true, length-set}
+use Rattle.std.specs.List.{range_with_len}
 use Rattle.std.proofs.lemmas.Bool.{false≢true}
 use Rattle.std.proofs.Math.Seq.{map-set_same}
 use Rattle.std.proofs.lemmas.List.{length-map}
@@ -11,26 +11,24 @@ use Rattle.nt_value.specs.declared.leaf.Leaf.{Leaf}
 use Rattle.nt_design.specs.Expressions.{value_of}
 use Rattle.nt_design.specs.Meaning.{most_turns, meaning}
 use Rattle.nt_design.specs.Parts.{Value}
-use Rattle.nt_design.specs.Shapes.{Scope, target_shape, tree_shape, on_shape, slot_shape as shape_of_slot}
+use Rattle.nt_design.specs.Shapes.{target_shape, tree_shape, on_shape, slot_shape as shape_of_slot}
 use Rattle.nt_design.specs.WellFormed.{IsDesign, IsAssign, IsDriven, IsSlotOf, net_shapes, scope_with}
 use Rattle.nt_design.specs.declared.design.Design.{Design}
 use Rattle.nt_design.specs.declared.env.Env.{Env}
 use Rattle.nt_design.specs.declared.function.Function.{Function}
 use Rattle.nt_design.specs.declared.object.Net.{Net}
 use Rattle.nt_design.specs.declared.object.NetKind.{NetKind}
-use Rattle.nt_design.specs.declared.object.NetKind.TheVariants.{Wire, Unresolved, Resolved}
+use Rattle.nt_design.specs.declared.object.NetKind.TheVariants.{Unresolved}
 use Rattle.nt_design.specs.declared.object.Object.{Object}
 use Rattle.nt_design.specs.declared.object.Object.TheVariants as object
 use Rattle.nt_design.specs.declared.process.Assign.{Assign}
 use Rattle.nt_design.specs.declared.process.Proc.{Proc}
 use Rattle.nt_design.specs.declared.target.Target.{Target}
 use Rattle.nt_design.specs.declared.target.Target.TheVariants as target
-use Rattle.nt_design.specs.declared.tree.Tree.{Tree}
-use Rattle.nt_design.specs.declared.tree.Tree.TheVariants.{Const}
 use Rattle.nt_design.proofs.Values.{value_const, meaning_of_const}
 use Rattle.nt_design.proofs.Constants.{shape_const}
 use Rattle.nt_machine.specs.Same.{is_same, is_one_of}
-use Rattle.nt_machine.specs.State.{Over, MachineState, place_at, items_at, count_at, value_at, net_shape, more, fewer, each_below, world_of}
+use Rattle.nt_machine.specs.State.{Over, MachineState, place_at, items_at, count_at, value_at, net_shape, more, each_below, world_of}
 use Rattle.nt_machine.specs.StateFits.{IsStateOf, slot_shape}
 use Rattle.nt_machine.specs.Step.{step, is_pending_at, is_some_item, is_some_put, proc_step, update_step, only_if, in_turns, assign_step, resolve_step, driven, evaluated, resolved, set_net, contribution, is_order, is_order_of, net_value, in_order, is_pending}
 use Rattle.nt_machine.specs.Wake.{wake, calls_of, reads_at, one_more_if, place_after, items_after, waking_at}
@@ -165,7 +163,7 @@ pub slots_long : (d : Design) (s : MachineState) → IsStateOf d s → length s.
 slots_long d s of =
     sym (length-map s.slots shape_of) ∙ ap (λ (l : List (List Leaf)). length l) of.slots ∙ length-map d.assigns (λ (assign : Assign). slot_shape d assign.target)
 
-net_shape_there : (d : Design) (n : ℕ) (net : Net) → slice_get d.nets n ≡ Some net → net_shape d n ≡ net.shape
+pub net_shape_there : (d : Design) (n : ℕ) (net : Net) → slice_get d.nets n ≡ Some net → net_shape d n ≡ net.shape
 net_shape_there d n net here =
     get_or_from_slice_get (net_shapes d) n net.shape [] (slice_get-map (λ (net : Net). net.shape) d.nets n ∙ ap (option_map (λ (net : Net). net.shape)) here)
 
@@ -255,7 +253,7 @@ no_proc [] p proc h at = none-some proc at
 no_proc (x ∷ xs) p proc h at = let e = ap length h in omega (arith, e)
 
 -- the leaves of an assignment's slot in a state
-slot_has : (d : Design) (s : MachineState) (a : ℕ) (assign : Assign) → IsStateOf d s → slice_get d.assigns a ≡ Some assign → shape_of (get_or s.slots a []) ≡ slot_shape d assign.target
+pub slot_has : (d : Design) (s : MachineState) (a : ℕ) (assign : Assign) → IsStateOf d s → slice_get d.assigns a ≡ Some assign → shape_of (get_or s.slots a []) ≡ slot_shape d assign.target
 slot_has d s a assign of here =
     sym (get_or-map shape_of s.slots a [])
     ∙ ap (λ (l : List (List Leaf)). get_or l a []) of.slots
@@ -303,7 +301,7 @@ both true b p q = q
 both false b p q = absurd (false≢true p)
 
 -- the first slot that an order names is one of the net's
-first_below : (n first : ℕ) (rest : List ℕ) → is_order n (first ∷ rest) ≡ true → first < n
+pub first_below : (n first : ℕ) (rest : List ℕ) → is_order n (first ∷ rest) ≡ true → first < n
 first_below n first rest h =
     ltb-true first n (and_first _ _ (and_second (length (first ∷ rest) == n) _ (and_first _ _ h)))
 
@@ -317,7 +315,7 @@ net_value_some d kind shape values h =
     some (v ∷ vs) = (v, refl)
 
 -- the slot of a driver has the leaves of the net that lists it
-slot_of_net : (d : Design) (n slot : ℕ) (t : Target) → IsSlotOf n slot t → slot_shape d t ≡ net_shape d n
+pub slot_of_net : (d : Design) (n slot : ℕ) (t : Target) → IsSlotOf n slot t → slot_shape d t ≡ net_shape d n
 slot_of_net d n slot (target.Slot m k low width) is = ap (net_shape d) is.0
 slot_of_net d n slot (target.Var v path) is = absurd is
 slot_of_net d n slot (target.Local i path) is = absurd is

@@ -1,6 +1,6 @@
 -- For the tests: a design of two nets, the first with a constant as its driver, is well formed and plain.
-use Rattle.std.proofs.Common.{◌≡◌, ◌↔◌, ℕ, zero, suc, ◌≤◌, ◌<◌, List, [], ◌∷◌, length, map, Option, Some, None, slice_get, inr, refl, sym, ◌∙◌, ap, subst, arith}
-use Rattle.std.specs.List.{Contains, All}
+use Rattle.std.proofs.Common.{◌≡◌, ℕ, zero, suc, ◌≤◌, ◌<◌, List, [], ◌∷◌, length, Some, None, slice_get, inr, refl, sym, ◌∙◌, ap, subst, arith}
+use Rattle.std.specs.List.{Contains}
 use Rattle.std.proofs.lemmas.List.Elements.{All-nil, All-cons}
 use Rattle.std.proofs.lemmas.Option.{same_Some, none-some}
 use Rattle.nt_value.specs.Values.{shape_of}
@@ -17,9 +17,7 @@ use Rattle.nt_design.specs.declared.object.Net.{Net}
 use Rattle.nt_design.specs.declared.object.NetKind.TheVariants.{Unresolved}
 use Rattle.nt_design.specs.declared.object.Object.TheVariants as object
 use Rattle.nt_design.specs.declared.process.Assign.{Assign}
-use Rattle.nt_design.specs.declared.target.Target.{Target}
 use Rattle.nt_design.specs.declared.target.Target.TheVariants.{Slot, Var as VarTarget}
-use Rattle.nt_design.specs.declared.tree.Tree.{Tree}
 use Rattle.nt_design.specs.declared.tree.Tree.TheVariants.{Const}
 use Rattle.nt_design.proofs.Constants.{shape_const, time_const, reads_const}
 

@@ -4,11 +4,12 @@ use Rattle.std.specs.List.{range_with_len}
 use Rattle.std.specs.List.Sorted.{IsPermutation}
 use Rattle.nt_design.specs.WellFormed.{IsDesign}
 use Rattle.nt_design.specs.declared.design.Design.{Design}
-use Rattle.nt_machine.specs.Execution.{is_active, is_over, move, may_repeat, steps, expansion}
+use Rattle.nt_machine.specs.Execution.{Execution, is_active, is_over, move, may_repeat, steps, expansion}
 use Rattle.nt_machine.specs.Rounds.{Process, RoundState, round}
 use Rattle.nt_machine.specs.State.{MachineState, start_state, fewer}
 use Rattle.nt_machine.specs.StateFits.{IsStateOf}
 use Rattle.nt_machine.specs.Step.{step, is_pending, is_order, copies_of}
+use Rattle.nt_machine.specs.declared.event.Entry.{Entry}
 use Rattle.nt_machine.specs.declared.event.Event.{Event}
 use Rattle.nt_machine.specs.declared.event.Event.TheVariants.{Stmt, Assign as AssignEvent, Update, Resolve}
 
@@ -20,10 +21,19 @@ OrdersArePermutations = (n : ℕ) (order : List ℕ) → (is_order n order ≡ t
 abbrev pub StartFits : Type 0
 StartFits = (d : Design) → IsDesign d → IsStateOf d (start_state d)
 
+-- a step keeps a state of a design
+abbrev pub StepKeeps : Type 0
+StepKeeps = (d : Design) (s t : MachineState) (e : Event) → IsDesign d → IsStateOf d s → step d s e ≡ Some t → IsStateOf d t
+
 -- a move keeps a state of a design
 abbrev pub MoveKeeps : Type 0
 MoveKeeps =
     (until : ℕ) (d : Design) (s t : MachineState) → IsDesign d → IsStateOf d s → is_active s ≡ false → move until s ≡ Some t → IsStateOf d t
+
+-- an execution ends in a state of its design
+abbrev pub ExecutionFits : Type 0
+ExecutionFits =
+    (until : ℕ) (d : Design) (entries : List Entry) (s : MachineState) → IsDesign d → Execution until d entries s → IsStateOf d s
 
 -- one move makes Active not empty, whether it stays in the slot or begins a later one
 abbrev pub MoveFills : Type 0

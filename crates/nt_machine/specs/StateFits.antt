@@ -4,7 +4,7 @@ use Rattle.std.specs.List.{flat_map}
 use Rattle.nt_value.specs.Values.{shape_of}
 use Rattle.nt_value.specs.declared.leaf.Leaf.{Leaf}
 use Rattle.nt_design.specs.Parts.{Value, int_leaf, leaves_at}
-use Rattle.nt_design.specs.Reads.{act_reads, act_writes, reads_of}
+use Rattle.nt_design.specs.Reads.{act_calls, act_reads, act_writes, calls_of, reads_of}
 use Rattle.nt_design.specs.Rules.{act_fits}
 use Rattle.nt_design.specs.Shapes.{Scope, tree_shape, is_leaf}
 use Rattle.nt_design.specs.WellFormed.{net_shapes, var_shapes, scope_with}
@@ -16,6 +16,7 @@ use Rattle.nt_design.specs.declared.process.Assign.{Assign}
 use Rattle.nt_design.specs.declared.process.Proc.{Proc}
 use Rattle.nt_design.specs.declared.target.Target.{Target}
 use Rattle.nt_design.specs.declared.target.Target.TheVariants as target
+use Rattle.nt_design.specs.declared.tree.Tree.{Tree}
 use Rattle.nt_machine.specs.Rounds.{var_in, used_by_proc}
 use Rattle.nt_machine.specs.State.{Item, Do, Testing, Stepping, Repeating, Counting, Each, Awaiting, Place, Unbegun, Ready, Inactive, Later, Waits, Over, MachineState, place_at, items_at, net_shape, var_shape}
 use Rattle.nt_machine.specs.Step.{copies_of}
@@ -68,6 +69,16 @@ abbrev pub used_by_item : Item → List ℕ
 used_by_item i =
     flat_map var_in (objects_in i) ++ flat_map (λ s. flat_map var_in (act_reads s) ++ act_writes s) (acts_in i)
 
+-- the tests in an item
+abbrev pub tests_in : Item → List Tree
+tests_in (Testing test step body) = test ∷ []
+tests_in (Stepping test step body) = test ∷ []
+tests_in _ = []
+
+-- the functions that an item calls
+abbrev pub called_by_item : Item → List ℕ
+called_by_item i = flat_map calls_of (tests_in i) ++ flat_map act_calls (acts_in i)
+
 -- ---- where a procedure is
 -- a procedure waits at an event control, with one value kept for each of its expressions, at a `wait`, or at the end of an
 -- `always_comb`
@@ -97,11 +108,12 @@ PlaceFits moment items (Later at) = HasWork items × (moment < at)
 PlaceFits moment items (Waits kept) = WaitsFor kept items
 PlaceFits moment items Over = items ≡ []
 
--- a procedure: what it has to do fits its locals, and uses no variable that its body doesn't use
+-- a procedure: what it has to do fits its locals, and uses no variable and calls no function that its body doesn't
 pub record ProcFits (d : Design) (s : MachineState) (p : ℕ) (proc : Proc) : Type 0 where
   pub items : All (ItemFits (scope_with d proc.locals None)) (items_at s p)
   pub place : PlaceFits s.moment (items_at s p) (place_at s p)
   pub inside : (v : ℕ) → Contains (flat_map used_by_item (items_at s p)) v → Contains (used_by_proc proc) v
+  pub called : (f : ℕ) → Contains (flat_map called_by_item (items_at s p)) f → Contains (act_calls proc.body) f
 
 -- ---- the state
 -- the leaves of each assignment's slot; an assignment to a variable has none

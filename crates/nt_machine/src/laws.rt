@@ -1,5 +1,5 @@
 // Laws of the definitions in specs/, each proved of every design and state.
-ghost use Rattle.nt_machine.specs.Laws.{OrdersArePermutations, OnlyPending, AgainChangesNothing, RoundLeads, MoveFills, MoveKeeps, MoveStays, StartFits};
+ghost use Rattle.nt_machine.specs.Laws.{ExecutionFits, OrdersArePermutations, OnlyPending, AgainChangesNothing, RoundLeads, MoveFills, MoveKeeps, MoveStays, StartFits, StepKeeps};
 
 /// The orders that a resolution of n slots may name are the permutations of the numbers below n (4.7).
 pub fn orders_are_permutations()
@@ -40,4 +40,14 @@ pub fn move_keeps()
 /// The start state is one of its design.
 pub fn start_fits()
     ensures { StartFits }
+{}
+
+/// A step keeps a state of its design.
+pub fn step_keeps()
+    ensures { StepKeeps }
+{}
+
+/// An execution ends in a state of its design.
+pub fn execution_fits()
+    ensures { ExecutionFits }
 {}

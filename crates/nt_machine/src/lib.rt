@@ -15,8 +15,8 @@ mod tests;
 pub use deed::{Deed, Put};
 pub use event::{Entry, Event, Order};
 pub use laws::{
-    again_changes_nothing, move_fills, move_keeps, move_stays, only_pending,
-    orders_are_permutations, round_leads, start_fits,
+    again_changes_nothing, execution_fits, move_fills, move_keeps, move_stays, only_pending,
+    orders_are_permutations, round_leads, start_fits, step_keeps,
 };
 pub use moved::Moved;
 pub use state::{State, advance, start};

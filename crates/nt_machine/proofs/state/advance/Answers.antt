@@ -1,5 +1,5 @@
 use Rattle.std.proofs.Common.{sym}
-use Rattle.nt_machine.proofs.Moves.{settled, no_move}
+use Rattle.nt_machine.proofs.Moves.{settled}
 use Rattle.nt_machine.proofs.state.advance.Goals as goal
 
 pub returns-then-is_active-clause-state : goal.returns-then-is_active-clause-state

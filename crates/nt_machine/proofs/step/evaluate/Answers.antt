@@ -1,6 +1,5 @@
 use Rattle.std.proofs.Common.{◌∙◌, Some, ap, subst, arith, sym, []}
-use Rattle.nt_design.specs.Plain.{IsConstantDriver, net_of}
-use Rattle.nt_machine.specs.Plain.{IsPlainState, driven_plain}
+use Rattle.nt_machine.specs.Plain.{IsPlainState}
 use Rattle.nt_machine.specs.State.{MachineState}
 use Rattle.nt_machine.specs.StateFits.{IsStateOf}
 use Rattle.nt_machine.specs.declared.event.Event.TheVariants.{Resolve}

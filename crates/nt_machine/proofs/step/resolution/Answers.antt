@@ -1,4 +1,4 @@
-use Rattle.nt_machine.proofs.Steps.{driver_value, no_driver_value}
+use Rattle.nt_machine.proofs.Steps.{driver_value}
 use Rattle.nt_machine.proofs.step.resolution.Goals as goal
 
 pub returns-in_ok-value-in-len1-up : goal.returns-in_ok-value-in-len1-up
