@@ -64,7 +64,8 @@ pub(crate) fn choose_tree(
     Ok(Expr::Choose { at, test, yes, no })
 }
 
-pub(crate) fn binary_tree(
+/// The tree of an operator and its two operands.
+pub fn binary_tree(
     alloc: Global,
     at: Place,
     op: Binary,

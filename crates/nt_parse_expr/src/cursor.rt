@@ -6,7 +6,7 @@ ghost use Rattle.nt_parse_expr.specs.Readings.{Reads, taken};
 ghost use Rattle.nt_parse_expr.specs.Places.{PlacedIn};
 
 use crate::front::{start, stop_first};
-use crate::reading::whole;
+use crate::reading::expression_in;
 use crate::stop::Stop;
 use nt_ast::Expr;
 use nt_diag::{Fault, Refusal, Rule};
@@ -27,7 +27,7 @@ pub struct Cursor {
 fn read(alloc: Global, tokens: &[Token]) -> Result<(Expr, &[Token]), Stop>
     ensures { Gives (λ x. (x.0, x.1.now)) result (spec.read 64 tokens.now) }
 {
-    let (x, rest) = whole(alloc, MAX_DEPTH, tokens)?;
+    let (x, rest) = expression_in(alloc, MAX_DEPTH, tokens)?;
     if stop_first(rest) {
         Ok((x, rest))
     } else {

@@ -35,7 +35,7 @@ fn nested(alloc: Global, depth: u32, tokens: &[Token]) -> Result<(Expr, &[Token]
     if depth == 0 {
         return Err(Stop::Refused);
     }
-    whole(alloc, depth - 1, tokens)
+    expression_in(alloc, depth - 1, tokens)
 }
 
 #[cycle(reading)]
@@ -48,8 +48,9 @@ fn nested_operand(alloc: Global, depth: u32, tokens: &[Token]) -> Result<(Expr, 
     operand(alloc, depth - 1, tokens)
 }
 
+/// More expressions, each after a comma, behind those that were found. They stand in an open node.
 #[cycle(reading)]
-pub(crate) fn others(
+pub fn others(
     alloc: Global,
     depth: u32,
     found: Items<Expr>,
@@ -73,13 +74,10 @@ pub(crate) fn others(
     Ok((all, rest))
 }
 
+/// One or more expressions, with commas between. They stand in an open node.
 #[cycle(reading)]
 #[tactic(auto, unfolding(crate::specs::Reader::several))]
-pub(crate) fn several(
-    alloc: Global,
-    depth: u32,
-    tokens: &[Token],
-) -> Result<(Items<Expr>, &[Token]), Stop>
+pub fn several(alloc: Global, depth: u32, tokens: &[Token]) -> Result<(Items<Expr>, &[Token]), Stop>
     ensures { Gives (λ x. (x.0, x.1.now)) result (spec.several 64 (below 64 depth) tokens.now) }
 {
     let (x, rest) = nested(alloc, depth, tokens)?;
@@ -247,8 +245,9 @@ fn select(
     Ok((true, Expr::Member { at, of, name }, &tokens[2..]))
 }
 
+/// The tree with the selects that follow it, at most 64. Where `free`, `.size` is a member.
 #[cycle(reading)]
-pub(crate) fn selects(
+pub fn selects(
     alloc: Global,
     depth: u32,
     free: bool,
@@ -535,9 +534,10 @@ fn choose(
     Ok((choose_tree(alloc, at, test, yes, no)?, rest))
 }
 
+/// An expression with at most `depth` open nodes over one another, whatever follows it.
 #[cycle(reading)]
 #[tactic(auto, unfolding(crate::specs::Reader::whole))]
-pub(crate) fn whole(alloc: Global, depth: u32, tokens: &[Token]) -> Result<(Expr, &[Token]), Stop>
+pub fn expression_in(alloc: Global, depth: u32, tokens: &[Token]) -> Result<(Expr, &[Token]), Stop>
     ensures { Gives (λ x. (x.0, x.1.now)) result (spec.whole 64 (below 64 depth) tokens.now) }
 {
     let at = start(tokens);

@@ -1,0 +1,5 @@
+pub mod Tables
+pub mod Statements
+pub mod Reader
+pub mod Readings
+pub mod Places
