@@ -1,10 +1,10 @@
 #!/usr/bin/env python3
 """Constant expressions, by the clauses of IEEE 1800-2017 and not by the program.
 
-    checks/constants.py              compares the table in crates/nt_const/src/tests.rt
+    checks/constants.py              compares the table in crates/nt_tests/src/constants.rt
     checks/constants.py SEED COUNT   prints so many other lines for it, at random
 
-A line is told in tests.rt: an expression in prefix form, the leaf that its value goes to, and what it gives.
+A line is told in constants.rt: an expression in prefix form, the leaf that its value goes to, and what it gives.
 """
 
 import functools
@@ -12,7 +12,7 @@ import os
 import random
 import sys
 
-TESTS = os.path.join(os.path.dirname(os.path.abspath(__file__)), "../crates/nt_const/src/tests.rt")
+TESTS = os.path.join(os.path.dirname(os.path.abspath(__file__)), "../crates/nt_tests/src/constants.rt")
 UNARY = {"pos", "neg", "~", "!", "r&", "r~&", "r|", "r~|", "r^", "r~^"}
 ARITHMETIC = {"+", "-", "*", "/", "%", "&", "|", "^", "~^"}
 SHIFTS = {"<<", ">>", ">>>"}
@@ -395,7 +395,7 @@ def main():
     while len(lines) < int(sys.argv[2]):
         case = made(random.randint(1, 6))
         to = random.choice(["none"] * 3 + ["u8t4", "s16t4", "u64t4", "u3t2", "s40t2", "u1t4", "s32t2"])
-        # in tests.rt the first " | " ends the expression; and some replications are too long to be written out
+        # in constants.rt the first " | " ends the expression; and some replications are too long to be written out
         if len(case) < 400 and " | " not in case:
             try:
                 lines.add("%s | %s | %s" % (case, to, answer(case, to)))

@@ -17,6 +17,3 @@ pub use expr::{Expr, Key};
 pub use path::{Declared, Path};
 pub use stmt::Stmt;
 pub use types::{IntWord, TypeTree};
-
-#[cfg(test)]
-mod tests;

@@ -13,6 +13,3 @@ mod walk;
 pub use constants::Constants;
 pub use evaluate::{constant, width_and_sign};
 pub use laws::one_answer;
-
-#[cfg(test)]
-mod tests;

@@ -13,6 +13,3 @@ mod texts;
 pub use cut::tokens;
 pub use kinds::{Head, Mark, Token, TokenKind, Word};
 pub use laws::{each_list, each_text, each_word, longest_match, one_cut};
-
-#[cfg(test)]
-mod tests;

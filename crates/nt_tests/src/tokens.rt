@@ -1,4 +1,4 @@
-use crate::{Head, Mark, TokenKind, Word, tokens};
+use nt_lexer::{Head, Mark, TokenKind, Word, tokens};
 use nt_diag::{Fault, Rule};
 use nt_value::{Base, Digit, Literal, Text, Unit};
 use std::alloc::{AllocError, Global};

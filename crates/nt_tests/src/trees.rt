@@ -1,6 +1,6 @@
 // Each call that copies, once on a small tree.
 
-use crate::{Expr, IntWord, Path, Stmt, TypeTree, copy_expr, copy_stmt, copy_type};
+use nt_ast::{Expr, IntWord, Path, Stmt, TypeTree, copy_expr, copy_stmt, copy_type};
 use nt_value::{Binary, Bits, Leaf, Literal, Name, Place};
 use sqlite_items::{Boxed, Items};
 use std::alloc::{AllocError, Global};
