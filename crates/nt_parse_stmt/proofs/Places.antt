@@ -12,7 +12,7 @@ use Rattle.nt_parse_stmt.specs.Statements.{Tested, tested, Value, given, compoun
 use Rattle.nt_parse_expr.specs.Places.{Within, Ascending, Placed, literal_in, read_in, binary_in, no_parts}
 use Rattle.nt_parse_stmt.specs.Reader.{plain_read}
 use Rattle.nt_parse_stmt.specs.Readings.{StatementDerives}
-use Rattle.nt_parse_stmt.specs.Places.{none_in, some_in, EventsPlaced, no_events, more_events, StatementPlaced, null_in, block_in, assign_in, nonblocking_in, if_in, else_in, case_in, while_in, repeat_stmt_in, for_in, forever_in, foreach_in, delay_in, event_in, wait_in, return_in, break_in, continue_in, called_in, display_in, finish_in, StatementsPlaced, no_statements, more_statements, ArmsPlaced, no_arms_in, more_arms, DefaultPlaced, no_default_in, default_in}
+use Rattle.nt_parse_stmt.specs.Places.{StatementPlacedIn, none_in, some_in, EventsPlaced, no_events, more_events, StatementPlaced, null_in, block_in, assign_in, nonblocking_in, if_in, else_in, case_in, while_in, repeat_stmt_in, for_in, forever_in, foreach_in, delay_in, event_in, wait_in, return_in, break_in, continue_in, called_in, display_in, finish_in, StatementsPlaced, no_statements, more_statements, ArmsPlaced, no_arms_in, more_arms, DefaultPlaced, no_default_in, default_in}
 use Rattle.nt_parse_expr.proofs.Begins.{reference_begins, left_begins}
 use Rattle.nt_parse_expr.proofs.Places.{spans, wider, halves, rest_of, front_of, first_in, start_in, path_in, expression_placed, left_placed, several_placed, others_placed}
 use Rattle.nt_parse_stmt.proofs.Firsts.{Opens, leads_form}
@@ -150,3 +150,6 @@ module _ (file : ℕ) where
 
 pub each_place : (limit file i j : ℕ) (ts after : Tokens) (x : Stmt) → StatementDerives limit ts x after → Ascending file i j ts → StatementPlaced file i j x
 each_place limit file i j ts after x d a = statement_placed file limit d.derives (front_of file d.front after (subst (Ascending file i j) d.split a))
+
+pub placed_in : (limit : ℕ) (ts after : Tokens) (x : Stmt) (d : StatementDerives limit ts x after) → StatementPlacedIn d.front x
+placed_in limit ts after x d = λ file i j a. statement_placed file limit d.derives a

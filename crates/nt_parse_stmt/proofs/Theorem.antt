@@ -1,6 +1,6 @@
 -- The reader finds a statement exactly where there is one.
 use Rattle.std.proofs.Common.{◌≡◌, ℕ, suc, ◌+◌, ◌-◌, ◌≤◌, ◌++◌, true, false, Bool, length, take, drop, append_assoc, length-append, length-drop, arith, Some, None, [], ◌∷◌, refl, sym, ap, ◌∙◌, subst}
-use Rattle.std.proofs.lemmas.List.{drop_at, take-append-drop}
+use Rattle.std.proofs.lemmas.List.{drop_at, take_at, take-append-drop}
 use Rattle.nt_ast.specs.declared.stmt.Stmt.{Stmt}
 use Rattle.nt_lexer.specs.declared.kinds.Mark.TheVariants as m
 use Rattle.nt_lexer.specs.declared.kinds.Word.TheVariants as w
@@ -11,11 +11,13 @@ use Rattle.nt_parse_expr.specs.Reader.{is_kind, is_at}
 use Rattle.nt_parse_stmt.specs.Reader as r
 use Rattle.nt_parse_stmt.specs.Reader.{is_word_kind, is_word, inside}
 use Rattle.nt_parse_stmt.specs.Readings.{StatementDerives}
+use Rattle.nt_parse_stmt.specs.Places.{StatementPlacedIn}
 use Rattle.nt_parse_expr.proofs.Follows.{kind_is, false_of}
 use Rattle.nt_parse_expr.proofs.Sound.{bind_some, some_is, if_some}
 use Rattle.nt_parse_expr.proofs.Theorem.{tail_is}
 use Rattle.nt_parse_stmt.proofs.Firsts.{word_is}
 use Rattle.nt_parse_stmt.proofs.Complete.{Fit, statement_complete}
+use Rattle.nt_parse_stmt.proofs.Places.{placed_in}
 use Rattle.nt_parse_stmt.proofs.Whole.{whole_sound}
 
 stop_kind : (kind : TokenKind) → ends_statement kind ≡ true → (is_word_kind w.Else kind ≡ false) × (is_kind m.Colon kind ≡ false)
@@ -74,3 +76,11 @@ moved at n tokens after x e d =
     let same : drop (n - length after) tokens ≡ after = ap (λ k. drop (k - length after) tokens) e ∙ drops at tokens after x d in
     let le : length after ≤ length tokens = fits at tokens after x d in
     (subst (λ l. StatementDerives 64 (drop at tokens) x l) (sym same) d, omega (arith, ap length same))
+
+pub taken_placed : (at n : ℕ) (tokens after : Tokens) (x : Stmt) → n ≡ length tokens → StatementDerives 64 (drop at tokens) x after
+    → StatementPlacedIn (take ((n - length after) - at) (drop at tokens)) x
+taken_placed at n tokens after x e d =
+    let long : length (drop at tokens) ≡ length d.front + length after = ap length d.split ∙ length-append d.front after in
+    let k = (n - length after) - at in
+    let same : take k (drop at tokens) ≡ d.front = ap (take k) d.split ∙ take_at d.front after k (omega (arith, e, long, length-drop at tokens)) in
+    subst (λ l. StatementPlacedIn l x) (sym same) (placed_in 64 (drop at tokens) after x d)

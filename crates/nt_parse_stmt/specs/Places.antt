@@ -63,6 +63,10 @@ mutual
     no_default_in : {i j : ℕ} → DefaultPlaced file i j None
     default_in : {i j : ℕ} {x : Stmt} → StatementPlaced file i j x → DefaultPlaced file i j (Some x)
 
+-- The places of the tree lie within these tokens, and in their order, where these are in the order of their offsets.
+abbrev pub StatementPlacedIn : Tokens → Stmt → Type 0
+StatementPlacedIn ts x = (file i j : ℕ) → Ascending file i j ts → StatementPlaced file i j x
+
 -- what is derived from tokens in the order of their offsets is so placed
 abbrev pub EachStatementPlace : Type 0
 EachStatementPlace = (limit file i j : ℕ) (ts after : Tokens) (x : Stmt) → StatementDerives limit ts x after → Ascending file i j ts → StatementPlaced file i j x

@@ -1,7 +1,9 @@
 // Reading statements at a cursor.
-ghost use Rattle.std.specs.Prelude.{◌≡◌, ◌<◌, length};
+ghost use Rattle.std.specs.Prelude.{◌≡◌, ◌<◌, length, IfOk};
 ghost use Rattle.nt_parse_stmt.specs.Reader as spec;
 ghost use Rattle.nt_parse_expr.specs.Gives.{Gives};
+ghost use Rattle.nt_parse_expr.specs.Readings.{taken};
+ghost use Rattle.nt_parse_stmt.specs.Places.{StatementPlacedIn};
 ghost use Rattle.nt_parse_stmt.specs.Readings.{ReadsStatement};
 
 use crate::front::statement_stop;
@@ -30,7 +32,8 @@ fn read(alloc: Global, tokens: &[Token]) -> Result<(Stmt, &[Token]), Stop>
 /// Reads a statement that neither an `else` nor a colon follows, and moves the cursor past it.
 pub fn statement(alloc: Global, cursor: &mut Cursor) -> Result<Stmt, Fault>
     requires { cursor.old.at < length cursor.old.tokens.items }
-    ensures { ReadsStatement cursor.old result cursor.new }
+    ensures reads { ReadsStatement cursor.old result cursor.new }
+    ensures placed { IfOk result (λ x. StatementPlacedIn (taken cursor.old cursor.new) x) }
 {
     let tokens = &cursor.tokens[cursor.at..];
     let place = start(tokens);
