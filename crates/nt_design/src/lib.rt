@@ -12,8 +12,6 @@ mod laws;
 mod object;
 mod process;
 mod target;
-#[cfg(test)]
-mod tests;
 mod tree;
 
 pub use act::{Act, Flow};

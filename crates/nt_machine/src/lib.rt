@@ -9,8 +9,6 @@ mod moved;
 mod order;
 mod state;
 mod step;
-#[cfg(test)]
-mod tests;
 
 pub use deed::{Deed, Put};
 pub use event::{Entry, Event, Order};

@@ -1,10 +1,14 @@
-//! The tables that the readers of texts, the constants and the copies of trees are tried on.
+//! The tests of tokens, trees, constants, readers, designs and the machine.
 #![tactic(auto)]
 
 #[cfg(test)]
 mod constants;
 #[cfg(test)]
+mod designs;
+#[cfg(test)]
 mod expressions;
+#[cfg(test)]
+mod machine;
 #[cfg(test)]
 mod statements;
 #[cfg(test)]

@@ -1,5 +1,5 @@
 use Rattle.nt_machine.proofs.TwoNets.{two_nets_fit, two_nets_plain}
-use Rattle.nt_machine.proofs.tests.joined.Goals as goal
+use Rattle.nt_tests.proofs.machine.joined.Goals as goal
 
 pub returns-clause-design : goal.returns-clause-design
 returns-clause-design c =

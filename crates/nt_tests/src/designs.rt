@@ -1,5 +1,5 @@
 // The value of a constant, and copies.
-use crate::{
+use nt_design::{
     Act, Design, Env, Object, Tree, copy_act, copy_tree, meaning, reads_decide, values_fit,
 };
 use nt_value::{Base, Bits, Leaf, Place, Unit, Value, same};

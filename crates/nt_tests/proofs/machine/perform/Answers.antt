@@ -1,5 +1,5 @@
 use Rattle.nt_machine.proofs.Counts.{step_at_most}
-use Rattle.nt_machine.proofs.tests.perform.Goals as goal
+use Rattle.nt_tests.proofs.machine.perform.Goals as goal
 
 pub returns-clause-few : goal.returns-clause-few
 returns-clause-few c =
