@@ -3,8 +3,8 @@ ghost use Rattle.std.specs.Prelude.{◌≡◌, true, IfSome};
 ghost use Rattle.nt_value.specs.Digits.{IsLeaf};
 ghost use Rattle.nt_const.specs.Answers.{IsTarget};
 
-use nt_const::{Constants, constant, width_and_sign};
 use nt_ast::{Expr, Path};
+use nt_const::{Constants, constant, width_and_sign};
 use nt_diag::{Fault, Rule};
 use nt_value::{Binary, Bits, Digit, Leaf, Literal, Name, Place, Unary, unary};
 use sqlite_items::{Boxed, Items};

@@ -10,8 +10,8 @@ ghost use Rattle.nt_design.specs.declared.tree.Tree.TheVariants.{Const};
 ghost use Rattle.nt_machine.specs.Plain.{IsPlainState};
 ghost use Rattle.nt_machine.specs.StateFits.{IsStateOf, AtMost};
 
-use nt_machine::{Event, Order, State, allowed, apply, start};
 use nt_design::{Assign, Design, Net, NetKind, Object, Scoped, Target, Tree};
+use nt_machine::{Event, Order, State, allowed, apply, start};
 use nt_value::{Base, Bits, Leaf, Name, Place, Shape, Unit, Value, same};
 use sqlite_items::Items;
 use std::alloc::{AllocError, Global};

@@ -1,5 +1,5 @@
-use nt_lexer::{Head, Mark, TokenKind, Word, tokens};
 use nt_diag::{Fault, Rule};
+use nt_lexer::{Head, Mark, TokenKind, Word, tokens};
 use nt_value::{Base, Digit, Literal, Text, Unit};
 use std::alloc::{AllocError, Global};
 use std::test::Fail;
