@@ -164,8 +164,10 @@ fn after(alloc: Global, design: &Design, events: &[Event]) -> Result<State, Allo
     Ok(state)
 }
 
-fn shows(state: &State, net: u32, value: &Value) -> bool {
-    (net as usize) < state.env.nets.len() && same(state.net(net), value)
+fn shows(design: &Design, state: &State, net: u32, value: &Value) -> bool
+    requires { IsStateOf design.now state.now }
+{
+    (net as usize) < design.nets.len() && same(state.net(net), value)
 }
 
 #[test]
@@ -180,7 +182,7 @@ fn performs_events(rt: HostRuntime) -> Result<(), Fail> {
     let events = vec![in alloc; evaluation, resolution]?;
     let state = after(alloc, &design, &events)?;
     let five = number(alloc, 5)?;
-    assert!(rt; shows(&state, 0, &five));
+    assert!(rt; shows(&design, &state, 0, &five));
     assert_eq!(rt; state.count(&events[1]), 1);
     Ok(())
 }
