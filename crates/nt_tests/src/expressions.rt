@@ -1,4 +1,5 @@
 // Reading, on tables of texts whose trees were worked out from the grammar and not by the program.
+use crate::expression_of;
 use nt_ast::{Expr, Key, Path, copy_expr};
 use nt_diag::Fault;
 use nt_lexer::{Head, Mark, Token, TokenKind, tokens};
@@ -1046,16 +1047,13 @@ fn push_times(times: u32, part: &[u8], out: &mut Text) -> Result<(), AllocError>
 
 // The expression that is all of a text, or none.
 fn read_all(alloc: Global, text: &[u8]) -> Result<Option<Expr>, AllocError> {
-    let mut cursor = Cursor {
-        tokens: cut(alloc, text)?,
-        at: 0,
-    };
-    let mut refused = None;
-    let found = read_one(alloc, &mut cursor, &mut refused)?;
-    if cursor.at.wrapping_add(1) == cursor.tokens.len() {
-        Ok(found)
-    } else {
-        Ok(None)
+    if 4000000 < text.len() {
+        return Ok(None);
+    }
+    match expression_of(alloc, text) {
+        Ok(x) => Ok(Some(x)),
+        Err(Fault::Refused(_refusal)) => Ok(None),
+        Err(Fault::OutOfMemory(refused)) => Err(refused),
     }
 }
 

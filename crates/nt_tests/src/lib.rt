@@ -1,4 +1,4 @@
-//! The tests of tokens, trees, constants, readers, designs and the machine.
+//! All of a text as one expression or one statement, and tests of the crates beneath.
 #![tactic(auto)]
 
 #[cfg(test)]
@@ -11,7 +11,10 @@ mod expressions;
 mod machine;
 #[cfg(test)]
 mod statements;
+mod texts;
 #[cfg(test)]
 mod tokens;
 #[cfg(test)]
 mod trees;
+
+pub use texts::{expression_of, statement_of};

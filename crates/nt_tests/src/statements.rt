@@ -1,6 +1,7 @@
 // Reading of statements, on a table of texts whose trees were worked out from the grammar and not by the program.
 ghost use Rattle.std.specs.Prelude.{◌<◌, length};
 
+use crate::statement_of;
 use nt_ast::{Expr, Path, Stmt};
 use nt_diag::Fault;
 use nt_lexer::{Head, Token, tokens};
@@ -593,15 +594,11 @@ fn push_times(times: u32, part: &[u8], out: &mut Text) -> Result<(), AllocError>
 
 // Whether all of a text is a statement.
 fn is_statement(alloc: Global, text: &[u8]) -> Result<bool, AllocError> {
-    let mut cursor = Cursor {
-        tokens: cut(alloc, text)?,
-        at: 0,
-    };
-    if cursor.tokens.len() <= cursor.at {
+    if 4000000 < text.len() {
         return Ok(false);
     }
-    match statement(alloc, &mut cursor) {
-        Ok(_stmt) => Ok(cursor.at.wrapping_add(1) == cursor.tokens.len()),
+    match statement_of(alloc, text) {
+        Ok(_stmt) => Ok(true),
         Err(Fault::Refused(_refusal)) => Ok(false),
         Err(Fault::OutOfMemory(refused)) => Err(refused),
     }
