@@ -1,5 +1,5 @@
 -- Which of several faults is the refusal: the least by phase, file, offset and rule number. The order is this project's own.
-use Rattle.std.specs.Prelude.{ℕ, ◌≡◌, ◌<◌, ◌≤◌, ◌⊎◌}
+use Rattle.std.specs.Prelude.{ℕ, ◌≡◌, ◌<◌, ◌≤◌, ◌⊎◌, ◌==◌, ◌&&◌, ◌||◌, nat_lt, nat_le, Bool, if◌then◌else◌, List, length, slice_get, Option, Some, None}
 use Rattle.nt_diag.specs.declared.rule.Rule.{Rule}
 use Rattle.nt_diag.specs.declared.rule.Rule.TheVariants.{X1, X2, X3, X4, X5, X6, X7, S1, S2, S3, T1, T2, T3, T4, T5, T6, T7, T8, T9, T10, T11, T12, T13, T14, T15, T16, T17, T18, N1, N2, N3, N4, N5, N6, N7, P1, P2, P3, P4, P5, P6, P7, P8, M1, M2, K1, K2, K3, K4, K5, K6}
 use Rattle.nt_diag.specs.declared.refusal.Refusal.{Refusal}
@@ -117,3 +117,30 @@ FoundNoLater a b = LessOr (phase_number a.phase) (phase_number b.phase) (NoLater
 pub record IsRefusal (Faulty : Found → Type 0) (f : Found) : Type 0 where
   pub is : Faulty f
   pub least : (g : Found) → Faulty g → FoundNoLater f g
+
+-- the least of the faults, or none where there is none
+abbrev pub IsLeastOf : (Refusal → Type 0) → Option Refusal → Type 0
+IsLeastOf Faulty None = (r : Refusal) → Faulty r → ⊥
+IsLeastOf Faulty (Some r) = IsLeast Faulty r
+
+-- the test of NoLater
+abbrev pub is_no_later : Refusal → Refusal → Bool
+is_no_later a b =
+    nat_lt a.place.file b.place.file
+    || ((a.place.file == b.place.file)
+    && (nat_lt a.place.offset b.place.offset
+    || ((a.place.offset == b.place.offset) && nat_le (rule_number a.rule) (rule_number b.rule))))
+
+-- the one of two faults that stands no later
+abbrev pub earlier : Option Refusal → Option Refusal → Option Refusal
+earlier None b = b
+earlier (Some x) None = Some x
+earlier (Some x) (Some y) = if is_no_later x y then Some x else Some y
+
+-- a fault of one of the first n items of a list. A fault of an item may rest on its number
+pub data Among {A : Type 0} (Faulty : ℕ → A → Refusal → Type 0) (n : ℕ) (xs : List A) (r : Refusal) : Type 0 where
+  among : (k : ℕ) (x : A) → k < n → slice_get xs k ≡ Some x → Faulty k x r → Among Faulty n xs r
+
+-- a fault of one of the items of a list
+abbrev pub AmongAll : {A : Type 0} (Faulty : ℕ → A → Refusal → Type 0) → List A → Refusal → Type 0
+AmongAll Faulty xs r = Among Faulty (length xs) xs r

@@ -6,7 +6,7 @@ mod refusal;
 mod rule;
 
 pub use laws::one_refusal;
-pub use refusal::{Fault, Refusal, say};
+pub use refusal::{Fault, Refusal, earlier, say};
 pub use rule::Rule;
 
 #[cfg(test)]

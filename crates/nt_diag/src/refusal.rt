@@ -1,6 +1,8 @@
 // Refusals and faults.
 ghost use Rattle.std.specs.Prelude.{◌≡◌, ◌++◌, ◌<◌, OnOk, [], get_or, length};
+ghost use Rattle.nt_diag.specs.Order.{earlier, is_no_later};
 ghost use Rattle.nt_diag.specs.Texts.{refusal_text};
+ghost use Rattle.nt_diag.specs.declared.refusal.Fault.TheVariants as fault;
 
 use crate::Rule;
 use nt_value::{Name, Place, Text};
@@ -20,6 +22,36 @@ pub enum Fault {
     Refused(Refusal),
     /// No memory was left.
     OutOfMemory(AllocError),
+}
+
+impl Fault {
+    /// That the sources break the rule at the place.
+    pub fn refused(rule: Rule, place: Place) -> Fault
+        ensures { result ≡ fault.Refused (record { rule = rule; place = place }) }
+    {
+        Fault::Refused(Refusal { rule, place })
+    }
+}
+
+// Whether the first stands no later than the second: by file, then by offset, then by the rule's number.
+fn is_no_later(a: Refusal, b: Refusal) -> bool
+    ensures { result ≡ is_no_later a b }
+{
+    a.place.file < b.place.file
+        || (a.place.file == b.place.file
+            && (a.place.offset < b.place.offset
+                || (a.place.offset == b.place.offset && a.rule.number() <= b.rule.number())))
+}
+
+/// The one of two faults that stands no later: by file, then by offset, then by the rule's number.
+pub fn earlier(a: Option<Refusal>, b: Option<Refusal>) -> Option<Refusal>
+    ensures { result ≡ earlier a b }
+{
+    match (a, b) {
+        (None, b) => b,
+        (a, None) => a,
+        (Some(x), Some(y)) => if is_no_later(x, y) { Some(x) } else { Some(y) },
+    }
 }
 
 impl From<AllocError> for Fault {

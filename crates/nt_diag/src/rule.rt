@@ -1,5 +1,6 @@
 // The rules that a source may break.
 ghost use Rattle.std.specs.Prelude.{◌≡◌};
+ghost use Rattle.nt_diag.specs.Order.{rule_number};
 ghost use Rattle.nt_diag.specs.Texts.{rule_code};
 
 /// A rule of refusal, by the code that the program prints. What each refuses, and where, stands in docs/REFUSALS.md.
@@ -166,6 +167,65 @@ impl Rule {
             Rule::K4 => "K4",
             Rule::K5 => "K5",
             Rule::K6 => "K6",
+        }
+    }
+
+    /// The rule's number: of the faults of one place that with the lowest is told. The order is this project's own.
+    pub(crate) fn number(self) -> u8
+        ensures { result ≡ rule_number self }
+    {
+        match self {
+            Rule::X1 => 1,
+            Rule::X2 => 2,
+            Rule::X3 => 3,
+            Rule::X4 => 4,
+            Rule::X5 => 5,
+            Rule::X6 => 6,
+            Rule::X7 => 7,
+            Rule::S1 => 8,
+            Rule::S2 => 9,
+            Rule::S3 => 10,
+            Rule::T1 => 11,
+            Rule::T2 => 12,
+            Rule::T3 => 13,
+            Rule::T4 => 14,
+            Rule::T5 => 15,
+            Rule::T6 => 16,
+            Rule::T7 => 17,
+            Rule::T8 => 18,
+            Rule::T9 => 19,
+            Rule::T10 => 20,
+            Rule::T11 => 21,
+            Rule::T12 => 22,
+            Rule::T13 => 23,
+            Rule::T14 => 24,
+            Rule::T15 => 25,
+            Rule::T16 => 26,
+            Rule::T17 => 27,
+            Rule::T18 => 28,
+            Rule::N1 => 29,
+            Rule::N2 => 30,
+            Rule::N3 => 31,
+            Rule::N4 => 32,
+            Rule::N5 => 33,
+            Rule::N6 => 34,
+            Rule::N7 => 35,
+            Rule::P1 => 36,
+            Rule::P2 => 37,
+            Rule::P3 => 38,
+            Rule::P4 => 39,
+            Rule::P5 => 40,
+            Rule::P6 => 41,
+            Rule::P7 => 42,
+            Rule::P8 => 43,
+            Rule::M1 => 44,
+            Rule::M2 => 45,
+            Rule::K1 => 46,
+            Rule::K2 => 47,
+            Rule::K3 => 48,
+            Rule::K4 => 49,
+            Rule::K5 => 50,
+            Rule::K6 => 51,
         }
     }
 }

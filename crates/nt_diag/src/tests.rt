@@ -1,7 +1,7 @@
 // Refusals as they are told.
 ghost use Rattle.std.specs.Prelude.{◌≡◌, ◌<◌};
 
-use crate::{Fault, Refusal, Rule, say};
+use crate::{Fault, Refusal, Rule, earlier, say};
 use nt_value::{Name, Place, Text};
 use std::alloc::{AllocError, Global};
 use std::test::Fail;
@@ -60,4 +60,20 @@ fn faults_compare(rt: HostRuntime) {
     };
     assert!(rt; Fault::Refused(refusal) == Fault::Refused(refusal));
     assert!(rt; Fault::Refused(refusal) != Fault::Refused(other));
+}
+
+#[test]
+fn the_earlier_fault_is_told(rt: HostRuntime) {
+    let first = Refusal {
+        rule: Rule::T4,
+        place: at(0, 2, 7),
+    };
+    let second = Refusal {
+        rule: Rule::T1,
+        place: at(1, 1, 1),
+    };
+    assert!(rt; earlier(Some(second), Some(first)) == Some(first));
+    assert!(rt; earlier(Some(first), None) == Some(first));
+    assert!(rt; earlier(None, Some(second)) == Some(second));
+    assert!(rt; earlier(None, None).is_none());
 }
