@@ -1,10 +1,11 @@
 #!/usr/bin/env python3
 """Constant expressions, by the clauses of IEEE 1800-2017 and not by the program.
 
-    checks/constants.py              compares the table in crates/nt_tests/src/constants.rt
+    checks/constants.py              compares the cases of constants in crates/nt_show/stdout
     checks/constants.py SEED COUNT   prints so many other lines for it, at random
 
-A line is told in constants.rt: an expression in prefix form, the leaf that its value goes to, and what it gives.
+A line is told in crates/nt_show/src/constants.rt: the leaf that the value goes to, an expression in prefix form, and what
+it gives.
 """
 
 import functools
@@ -12,7 +13,7 @@ import os
 import random
 import sys
 
-TESTS = os.path.join(os.path.dirname(os.path.abspath(__file__)), "../crates/nt_tests/src/constants.rt")
+CASES = os.path.join(os.path.dirname(os.path.abspath(__file__)), "../crates/nt_show/stdout")
 UNARY = {"pos", "neg", "~", "!", "r&", "r~&", "r|", "r~|", "r^", "r~^"}
 ARITHMETIC = {"+", "-", "*", "/", "%", "&", "|", "^", "~^"}
 SHIFTS = {"<<", ">>", ">>>"}
@@ -36,16 +37,15 @@ def digits_of(width, text):
     return format(int(text) % 2**width, "0%db" % width)
 
 
-def constant_named(name):
-    text = open(TESTS).read()
-    start = text.index("const " + name + ': &str = "\\\n')
-    start = text.index("\n", start) + 1
-    return text[start : text.index('";', start)].split("\n")
+def cases_of(sort):
+    """The cases of one sort, each with what it gives."""
+    with open(CASES) as lines:
+        return [line.rstrip("\n").removeprefix(sort + " ").split(" => ") for line in lines if line.startswith(sort + " ")]
 
 
 KNOWN = {}
-for line in constant_named("NAMES"):
-    name, leaf, value = line.split(" ")
+for case, _ in cases_of("name"):
+    name, leaf, value = case.split(" ")
     KNOWN[name] = (leaf_of(leaf), digits_of(leaf_of(leaf)[0], value))
 
 
@@ -330,28 +330,28 @@ def faults(tree):
     return found
 
 
+def said_leaf(leaf):
+    return "%s%dt%s" % ("s" if leaf[1] else "u", leaf[0], "4" if leaf[2] else "2")
+
+
 def said(leaf, digits):
-    name = "%s%dt%s" % ("s" if leaf[1] else "u", leaf[0], "4" if leaf[2] else "2")
-    if is_known(digits):
-        return "%s %d" % (name, number(digits, leaf[1]))
-    if digits[0] in "xz":
-        digits = digits[0] + digits.lstrip(digits[0])
-    return "%s b%s" % (name, digits)
+    value = str(number(digits, leaf[1])) if is_known(digits) else "%d'b%s" % (leaf[0], digits)
+    return "%s %s" % (said_leaf(leaf), value)
 
 
-def answer(case, to):
+def answer(to, case):
     words = case.split(" ")
     tree, end = parse(words)
     assert end == len(words), case
     if hides(tree):
-        return "T1 %d" % tree.at
+        return "T1 %d, T1 %d" % (tree.at, tree.at)
     found = faults(tree)
     if found:
-        return "T%d %d" % min(found)[::-1]
+        return "T%d %d, T%d %d" % (min(found)[::-1] * 2)
     leaf = alone(tree)
     target = leaf if to == "none" else leaf_of(to)
     digits = within(tree, max(leaf[0], target[0]), leaf[1])
-    return said(target, in_states(digits[-target[0] :], target[2]))
+    return "%s, %s" % (said_leaf(leaf), said(target, in_states(digits[-target[0] :], target[2])))
 
 
 LITERALS = (
@@ -381,13 +381,13 @@ def made(depth):
 def main():
     sys.setrecursionlimit(10000)
     if len(sys.argv) == 1:
-        cases = constant_named("CASES")
+        cases = cases_of("constant")
         wrong = 0
-        for line in cases:
-            case, to, told = line.rsplit(" | ", 2)
-            if answer(case, to) != told:
+        for line, told in cases:
+            to, case = line.split(" ", 1)
+            if answer(to, case) != told:
                 wrong += 1
-                print("%s: by the clauses %s" % (line, answer(case, to)))
+                print("%s => %s: by the clauses %s" % (line, told, answer(to, case)))
         print("%d cases, %d differ" % (len(cases), wrong))
         sys.exit(wrong != 0)
     random.seed(int(sys.argv[1]))
@@ -395,10 +395,10 @@ def main():
     while len(lines) < int(sys.argv[2]):
         case = made(random.randint(1, 6))
         to = random.choice(["none"] * 3 + ["u8t4", "s16t4", "u64t4", "u3t2", "s40t2", "u1t4", "s32t2"])
-        # in constants.rt the first " | " ends the expression; and some replications are too long to be written out
-        if len(case) < 400 and " | " not in case:
+        # some replications are too long to be written out
+        if len(case) < 400:
             try:
-                lines.add("%s | %s | %s" % (case, to, answer(case, to)))
+                lines.add("constant %s %s => %s" % (to, case, answer(to, case)))
             except (OverflowError, MemoryError):
                 pass
     print("\n".join(sorted(lines)))

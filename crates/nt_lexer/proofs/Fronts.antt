@@ -1,8 +1,8 @@
 -- Fronts of a text: runs, marks and based literals, each the longest of its shape.
-use Rattle.std.proofs.Common.{◌≡◌, ◌⊎◌, ℕ, zero, suc, ◌+◌, ◌<◌, ◌≤◌, Bool, true, false, cond, ◌&&◌, ◌||◌, nat_lt, nat_eq, if◌then◌else◌, List, [], ◌∷◌, ◌++◌, length, take, Option, Some, None, inl, inr, refl, sym, ap, subst, ◌∙◌, arith, length-take}
+use Rattle.std.proofs.Common.{◌≡◌, ◌⊎◌, ℕ, zero, suc, ◌+◌, ◌<◌, ◌≤◌, Bool, true, false, not, cond, ◌&&◌, ◌||◌, nat_lt, nat_eq, if◌then◌else◌, List, [], ◌∷◌, ◌++◌, length, take, Option, Some, None, inl, inr, refl, sym, ap, subst, ◌∙◌, arith, length-take}
 use Rattle.std.specs.Prelude.{slice_get, ◌==◌}
 use Rattle.std.specs.List.{list_all, prefix_len, starts_with}
-use Rattle.std.proofs.lemmas.Bool.{eq-eqb, eqb-true, ltb-true}
+use Rattle.std.proofs.lemmas.Bool.{eq-eqb, eqb-true, ltb-true, or_cases}
 use Rattle.std.proofs.lemmas.List.{length-take-le}
 use Rattle.std.proofs.lemmas.List.Sums.{prefix_len-le-length}
 use lib.Pointwise.{pointwise}
@@ -10,7 +10,7 @@ use Rattle.nt_lexer.specs.declared.kinds.Based.{Based}
 use Rattle.nt_lexer.specs.declared.kinds.Mark.{Mark}
 use Rattle.nt_lexer.specs.declared.kinds.Radix.{Radix}
 use Rattle.nt_lexer.specs.Bytes.{Bytes}
-use Rattle.nt_lexer.specs.Numbers.{radix_of, is_radix_digit, is_lone, goes_on, digits_len, based_by, with_radix, based_front}
+use Rattle.nt_lexer.specs.Numbers.{radix_of, is_radix_digit, is_lone, is_underscore, goes_on, digits_len, based_by, with_radix, based_front}
 use Rattle.nt_lexer.specs.Pieces.{first_mark}
 use Rattle.nt_lexer.specs.Lexemes.{IsDigits, IsTail, AfterSign, IsUnsized}
 
@@ -85,8 +85,25 @@ self (x ∷ xs) = and_of (nat_eq x x) (pointwise nat_eq xs xs) (eq-eqb x x refl)
 pub starts_at : (text : Bytes) (m : ℕ) → m ≤ length text → starts text (take m text) ≡ true
 starts_at text m le = ap (λ n. pointwise nat_eq (take m text) (take n text)) (length-take-le m text le) ∙ self (take m text)
 
+-- two spellings that begin with unlike bytes
+abbrev apart : Bytes → Bytes → Bool
+apart [] b = false
+apart (x ∷ xs) [] = false
+apart (x ∷ xs) (y ∷ ys) = not (nat_eq x y)
+
+not_both : (text a b : Bytes) → starts text a ≡ true → starts text b ≡ true → apart a b ≡ true → ⊥
+not_both text [] b e f g = absurd cc
+not_both text (x ∷ xs) [] e f g = absurd cc
+not_both [] (x ∷ xs) (y ∷ ys) e f g = absurd cc
+not_both (t ∷ ts) (x ∷ xs) (y ∷ ys) e f g =
+    let one : x ≡ t = eqb-true x t (and_both (nat_eq x t) (pointwise nat_eq xs (take (length xs) ts)) e).0 in
+    let two : y ≡ t = eqb-true y t (and_both (nat_eq y t) (pointwise nat_eq ys (take (length ys) ts)) f).0 in
+    let same : nat_eq x y ≡ true = eq-eqb x y (one ∙ sym two) in
+    let bad = sym g ∙ ap not same in cc
+
+-- each later spelling is no longer, or begins with another byte
 abbrev no_longer : Bytes → Table → Bool
-no_longer sp table = list_all (λ e. nat_lt (length e.0) (suc (length sp))) table
+no_longer sp table = list_all (λ e. nat_lt (length e.0) (suc (length sp)) || apart sp e.0) table
 
 abbrev pub ordered : Table → Bool
 ordered [] = true
@@ -108,9 +125,14 @@ pub record FoundMark (table : Table) (text : Bytes) (n : ℕ) : Type 0 where
   pub begins : starts text spelling ≡ true
   pub most : (j : ℕ) (sp : Bytes) (m : Mark) → slice_get table j ≡ Some (sp, m) → starts text sp ≡ true → length sp ≤ n
 
-here_most : (x : Bytes × Mark) (xs : Table) (text : Bytes) → no_longer x.0 xs ≡ true → (j : ℕ) (sp : Bytes) (m : Mark) → slice_get (x ∷ xs) j ≡ Some (sp, m) → length sp ≤ length x.0
-here_most x xs text ok zero sp m is = let same : x ≡ (sp, m) = some_is x (sp, m) is in omega (arith, ap (λ q. length q.0) same)
-here_most x xs text ok (suc j) sp m is = omega (arith, ltb-true (length sp) (suc (length x.0)) (entry_passes (λ e. nat_lt (length e.0) (suc (length x.0))) xs j (sp, m) ok is))
+here_most : (x : Bytes × Mark) (xs : Table) (text : Bytes) → no_longer x.0 xs ≡ true → starts text x.0 ≡ true
+    → (j : ℕ) (sp : Bytes) (m : Mark) → slice_get (x ∷ xs) j ≡ Some (sp, m) → starts text sp ≡ true → length sp ≤ length x.0
+here_most x xs text ok begins zero sp m is b = let same : x ≡ (sp, m) = some_is x (sp, m) is in omega (arith, ap (λ q. length q.0) same)
+here_most x xs text ok begins (suc j) sp m is b =
+    elim (or_cases (nat_lt (length sp) (suc (length x.0))) (apart x.0 sp) (entry_passes (λ e. nat_lt (length e.0) (suc (length x.0)) || apart x.0 e.0) xs j (sp, m) ok is)) [
+      | inl t ↦ omega (arith, ltb-true (length sp) (suc (length x.0)) t)
+      | inr t ↦ absurd (not_both text x.0 sp begins b t)
+    ]
 
 later_most : (x : Bytes × Mark) (xs : Table) (text : Bytes) (n : ℕ) → starts text x.0 ≡ false
     → ((j : ℕ) (sp : Bytes) (m : Mark) → slice_get xs j ≡ Some (sp, m) → starts text sp ≡ true → length sp ≤ n)
@@ -135,7 +157,7 @@ first_found (x ∷ xs) text found ok e =
             is = refl;
             len = sym len;
             begins = h.0;
-            most = λ j sp m is b. omega (arith, len, here_most x xs text (and_both (no_longer x.0 xs) (ordered xs) ok).0 j sp m is);
+            most = λ j sp m is b. omega (arith, len, here_most x xs text (and_both (no_longer x.0 xs) (ordered xs) ok).0 h.0 j sp m is b);
           }
       | inr h ↦
           let i = first_found xs text found (and_both (no_longer x.0 xs) (ordered xs) ok).1 h.1 in
@@ -175,8 +197,21 @@ pub record DigitsLaw (radix : Radix) (ds : Bytes) (n : ℕ) : Type 0 where
   pub is : 0 < n → IsDigits radix (take n ds)
   pub most : (m : ℕ) → m ≤ length ds → IsDigits radix (take m ds) → m ≤ n
 
+or_true : (t : Bool) → (t || true) ≡ true
+or_true true = refl
+or_true false = refl
+
+-- `_` goes on with the digits of each radix
+under_goes : (radix : Radix) (xs : Bytes) → list_all is_underscore xs ≡ true → list_all (goes_on radix) xs ≡ true
+unfolding goes_on
+under_goes radix [] e = refl
+under_goes radix (b ∷ bs) e =
+    let p = and_both (is_underscore b) (list_all is_underscore bs) e in
+    let one : (is_radix_digit radix b || (b == 95)) ≡ true = ap (λ t. is_radix_digit radix b || t) p.0 ∙ or_true (is_radix_digit radix b) in
+    ap (λ t. t && list_all (goes_on radix) bs) one ∙ under_goes radix bs p.1
+
 digits_by : (radix : Radix) (d : ℕ) (ds : Bytes) (t l : Bool) → is_radix_digit radix d ≡ t → is_lone radix d ≡ l
-    → DigitsLaw radix (d ∷ ds) (if t then 1 + prefix_len (goes_on radix) ds else if l then 1 else 0)
+    → DigitsLaw radix (d ∷ ds) (if t then 1 + prefix_len (goes_on radix) ds else if l then 1 + prefix_len is_underscore ds else 0)
 digits_by radix d ds true l e f =
     let one : 1 + prefix_len (goes_on radix) ds ≡ suc (prefix_len (goes_on radix) ds) = omega arith in
     record {
@@ -188,17 +223,19 @@ digits_by radix d ds true l e f =
     by : (m : ℕ) → m ≤ length (d ∷ ds) → IsDigits radix (take m (d ∷ ds)) → m ≤ 1 + prefix_len (goes_on radix) ds
     by zero le x = absurd x
     by (suc j) le (inl x) = omega (arith, run_most (goes_on radix) ds j (omega (arith, le)) x.1)
-    by (suc j) le (inr x) = omega (arith, ap length x.1, length-take-le j ds (omega (arith, le)))
-digits_by radix d ds false true e f = record {
-  fits = omega arith;
-  is = λ lt. inr (f, refl);
-  most = λ m le x. by m le x;
-}
+    by (suc j) le (inr x) = omega (arith, run_most (goes_on radix) ds j (omega (arith, le)) (under_goes radix (take j ds) x.1))
+digits_by radix d ds false true e f =
+    let one : 1 + prefix_len is_underscore ds ≡ suc (prefix_len is_underscore ds) = omega arith in
+    record {
+      fits = omega (arith, prefix_len-le-length is_underscore ds);
+      is = λ lt. subst (λ n. IsDigits radix (take n (d ∷ ds))) (sym one) (inr (f, run_take is_underscore ds));
+      most = λ m le x. by m le x;
+    }
   where
-    by : (m : ℕ) → m ≤ length (d ∷ ds) → IsDigits radix (take m (d ∷ ds)) → m ≤ 1
+    by : (m : ℕ) → m ≤ length (d ∷ ds) → IsDigits radix (take m (d ∷ ds)) → m ≤ 1 + prefix_len is_underscore ds
     by zero le x = absurd x
     by (suc j) le (inl x) = absurd (let bad = sym e ∙ x.0 in cc)
-    by (suc j) le (inr x) = omega (arith, ap length x.1, length-take-le j ds (omega (arith, le)))
+    by (suc j) le (inr x) = omega (arith, run_most is_underscore ds j (omega (arith, le)) x.1)
 digits_by radix d ds false false e f = record {
   fits = omega arith;
   is = λ lt. absurd (omega (arith, lt));

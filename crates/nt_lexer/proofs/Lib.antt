@@ -12,3 +12,4 @@ pub mod Whole
 pub mod Tens
 pub mod Words
 pub mod Says
+pub mod Ranges

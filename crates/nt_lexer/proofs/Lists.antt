@@ -15,7 +15,7 @@ use Rattle.nt_lexer.specs.Spellings.{marks}
 use Rattle.nt_lexer.specs.Spellings.{words}
 use Rattle.nt_lexer.specs.Pieces.{piece, name_len, number_len, begins_with, text_value, piece_by, name_piece, word_or_name, system_piece, system_by, number_piece, sized_or_decimal, decimal_piece, sized_piece, unsized_piece, unsized_or, filling_or, mark_or, first_mark, tick_piece, whole_text, text_by, text_piece, inside_len, block_by, closing, sign_piece, directive_by, directive_piece}
 use Rattle.nt_lexer.specs.Cuts.{place_after, place_at, Outcome, goes, stops, outcome, next, end_token, Lexes, done, on, agrees}
-use Rattle.nt_lexer.specs.Laws.{Ascends, NoEnd, IsList}
+use Rattle.nt_lexer.specs.Laws.{Ascending, no_token, token_then, NoEnd, IsList}
 use Rattle.nt_lexer.specs.declared.kinds.Based.{Based}
 use Rattle.nt_lexer.specs.declared.kinds.Mark.{Mark}
 use Rattle.nt_lexer.specs.declared.kinds.Word.{Word}
@@ -128,12 +128,12 @@ piece_fine (b ∷ bs) = by_fine (sort b) b bs
 -- what one piece adds
 record Adds (at : Place) (head after : Head) (one : List Token) : Type 0 where
   none : All NoEnd one
-  here : (n : ℕ) (ts : List Token) → at.offset < n → Ascends n ts → Ascends at.offset (one ++ ts)
+  here : (n j : ℕ) (ts : List Token) → at.offset < n → Ascending at.file n j ts → Ascending at.file at.offset j (one ++ ts)
   count : after.count ≡ head.count + length one
 
-lower : (m n : ℕ) (ts : List Token) → m ≤ n → Ascends n ts → Ascends m ts
-lower m n [] le a = tt
-lower m n (t ∷ ts) le a = (omega (arith, le, a.0), a.1)
+lower : {file j : ℕ} (m n : ℕ) (ts : List Token) → m ≤ n → Ascending file n j ts → Ascending file m j ts
+lower m n ts le (no_token within) = no_token (omega (arith, le, within))
+lower m n ts le (token_then t file from rest) = token_then t file (omega (arith, le, from)) rest
 
 abbrev AddsBy : Place → Head → Outcome → Type 0
 AddsBy at head (goes n after one) = Adds at head after one
@@ -144,12 +144,12 @@ adds_if true at head x y a b = a
 adds_if false at head x y a b = b
 
 nothing : (at : Place) (head after : Head) → after.count ≡ head.count → Adds at head after []
-nothing at head after e = record { none = All-nil NoEnd; here = λ n ts lt a. lower at.offset n ts (omega arith) a; count = omega (arith, e) }
+nothing at head after e = record { none = All-nil NoEnd; here = λ n j ts lt a. lower at.offset n ts (omega arith) a; count = omega (arith, e) }
 
 token_adds : (at : Place) (head after : Head) (kind : TokenKind) → no_end kind ≡ true → after.count ≡ head.count + 1 → Adds at head after (record { kind = kind; at = at } ∷ [])
 token_adds at head after kind f e = record {
   none = All-cons NoEnd (record { kind = kind; at = at }) [] (λ is. let bad : no_end k.End ≡ true = ap no_end (sym is) ∙ f in cc) (All-nil NoEnd);
-  here = λ n ts lt a. (omega arith, lower (at.offset + 1) n ts (omega arith) a);
+  here = λ n j ts lt a. token_then (record { kind = kind; at = at }) refl (omega arith) (lower (at.offset + 1) n ts (omega arith) a);
   count = e;
 }
 
@@ -167,6 +167,10 @@ place_offset : (file : ℕ) (bytes : Bytes) (at : ℕ) → at ≤ length bytes �
 unfolding place_after
 place_offset file bytes at le = omega (arith, length-take at bytes)
 
+place_file : (file : ℕ) (bytes : Bytes) (at : ℕ) → (place_at file bytes at).file ≡ file
+unfolding place_after
+place_file file bytes at = refl
+
 next_adds : (file : ℕ) (bytes : Bytes) (at : ℕ) (head : Head) (o : Outcome) → next file bytes at head ≡ o → AddsBy (place_at file bytes at) head o
 next_adds file bytes at head o e = subst (AddsBy (place_at file bytes at) head) e (adds head (place_at file bytes at) (piece (drop at bytes)) (piece_fine (drop at bytes)))
 
@@ -175,7 +179,9 @@ each {file = file} {bytes = bytes} {at = at} {head = head} (done e) = record {
   front = [];
   ends = refl;
   no_end = All-nil NoEnd;
-  ascends = (omega (arith, e, place_offset file bytes (length bytes) (omega arith)), tt);
+  ascends =
+      let end : (place_at file bytes (length bytes)).offset ≡ length bytes = place_offset file bytes (length bytes) (omega arith) in
+      token_then (end_token file bytes) (place_file file bytes (length bytes)) (omega (arith, e, end)) (no_token (omega (arith, end)));
   count = omega arith;
 }
 each {file = file} {bytes = bytes} {at = at} {head = head} (on {n = n} {after = after} {one = one} {rest = rest} lt some e l) =
@@ -186,6 +192,9 @@ each {file = file} {bytes = bytes} {at = at} {head = head} (on {n = n} {after = 
       front = one ++ i.front;
       ends = ap (λ xs. one ++ xs) i.ends ∙ sym (append_assoc one i.front (end_token file bytes ∷ []));
       no_end = All-append NoEnd one i.front a.none i.no_end;
-      ascends = subst (λ m. Ascends m (one ++ rest)) same (a.here (at + n) rest (omega (arith, same, some)) i.ascends);
+      ascends =
+          let in_file : Ascending (place_at file bytes at).file (at + n) (length bytes + 1) rest = subst (λ f. Ascending f (at + n) (length bytes + 1) rest) (sym (place_file file bytes at)) i.ascends in
+          subst (λ f. Ascending f at (length bytes + 1) (one ++ rest)) (place_file file bytes at)
+          (subst (λ m. Ascending (place_at file bytes at).file m (length bytes + 1) (one ++ rest)) same (a.here (at + n) (length bytes + 1) rest (omega (arith, same, some)) in_file));
       count = omega (arith, i.count, a.count, length-append one i.front);
     }

@@ -5,7 +5,7 @@ use Rattle.nt_value.specs.declared.digit.Digit.{Digit}
 use Rattle.nt_diag.specs.declared.rule.Rule.{Rule}
 use Rattle.nt_diag.specs.declared.rule.Rule.TheVariants.{X1, X3, X4}
 use Rattle.nt_lexer.specs.Bytes.{Bytes, sort, in_run}
-use Rattle.nt_lexer.specs.Numbers.{radix_of, is_radix_digit, is_lone, goes_on, filling_of}
+use Rattle.nt_lexer.specs.Numbers.{radix_of, is_radix_digit, is_lone, is_underscore, goes_on, filling_of}
 use Rattle.nt_lexer.specs.Pieces.{begins_with, piece}
 use Rattle.nt_lexer.specs.Spellings.{marks}
 use Rattle.nt_lexer.specs.declared.kinds.Mark.{Mark}
@@ -52,11 +52,11 @@ abbrev pub IsDecimal : Bytes → Type 0
 IsDecimal [] = ⊥
 IsDecimal (b ∷ bs) = (sort b ≡ s.Digit) × (list_all (in_run run.Number) bs ≡ true)
 
--- digits of a radix, after the first of which `_` may stand; or one x or z of a decimal literal
+-- digits of a radix, or one x or z of a decimal literal, after the first of which `_` may stand
 abbrev pub IsDigits : Radix → Bytes → Type 0
 IsDigits radix [] = ⊥
 IsDigits radix (d ∷ ds) =
-    ((is_radix_digit radix d ≡ true) × (list_all (goes_on radix) ds ≡ true)) ⊎ ((is_lone radix d ≡ true) × (ds ≡ []))
+    ((is_radix_digit radix d ≡ true) × (list_all (goes_on radix) ds ≡ true)) ⊎ ((is_lone radix d ≡ true) × (list_all is_underscore ds ≡ true))
 
 -- the letter of a radix and its digits
 abbrev pub IsTail : Bytes → Type 0

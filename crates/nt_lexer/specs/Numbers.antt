@@ -146,7 +146,7 @@ is_radix_digit r.Octal b = nat_le 48 b && nat_le b 55 || is_unknown b
 is_radix_digit r.Decimal b = is_ascii_digit b
 is_radix_digit r.Hex b = is_ascii_hexdigit b || is_unknown b
 
--- a decimal literal may be one x or z alone
+-- a decimal literal may be one x or z, after which only `_` may stand
 unfoldable pub is_lone : Radix → ℕ → Bool
 is_lone r.Decimal b = b == 120 || b == 88 || (b == 122 || b == 90)
 is_lone _ b = false
@@ -154,12 +154,15 @@ is_lone _ b = false
 unfoldable pub goes_on : Radix → ℕ → Bool
 goes_on radix b = is_radix_digit radix b || b == 95
 
+abbrev pub is_underscore : ℕ → Bool
+is_underscore b = b == 95
+
 -- how many bytes at the front are digits of the radix: `_` may stand after the first
 unfoldable pub digits_len : Radix → Bytes → ℕ
 digits_len radix [] = 0
 digits_len radix (b ∷ bs) =
     if is_radix_digit radix b then 1 + prefix_len (goes_on radix) bs
-    else if is_lone radix b then 1
+    else if is_lone radix b then 1 + prefix_len is_underscore bs
     else 0
 
 abbrev pub based_by : Bool → ℕ → Bytes → Option Radix → Option Based

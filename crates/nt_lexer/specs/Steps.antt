@@ -1,5 +1,6 @@
 -- What the functions of src/ say of one piece.
-use Rattle.std.specs.Prelude.{◌≡◌, ℕ, ◌<◌, ◌≤◌, List, ◌++◌, length, take, Result, Ok, Err}
+use Rattle.std.specs.Prelude.{◌≡◌, ℕ, ◌<◌, ◌≤◌, Bool, true, false, not, ◌==◌, List, [], ◌∷◌, ◌++◌, length, take, drop, Result, Ok, Err}
+use Rattle.std.specs.List.{list_all}
 use Rattle.nt_value.specs.Units.{IsUnit}
 use Rattle.nt_value.specs.declared.place.Place.{Place}
 use Rattle.nt_diag.specs.declared.refusal.Fault.{Fault}
@@ -30,3 +31,18 @@ IsPieceOf len (p.Skip n) = (0 < n) × (n ≤ len)
 IsPieceOf len (p.Scale n unit) = (0 < n) × (n ≤ len) × IsUnit unit
 IsPieceOf len (p.Take n kind) = (0 < n) × (n ≤ len)
 IsPieceOf len (p.Wrong rule n) = n ≤ len
+
+-- whether a spelling begins with another byte
+abbrev pub begins_else : ℕ → Bytes → Bool
+begins_else b [] = false
+begins_else b (c ∷ cs) = not (c == b)
+
+abbrev pub all_else : {A : Type 0} → ℕ → List (Bytes × A) → Bool
+all_else b table = list_all (λ e. begins_else b e.0) table
+
+-- all that begin with the byte stand from the one number on and below the other
+pub record IsRange {A : Type 0} (table : List (Bytes × A)) (b : ℕ) (range : ℕ × ℕ) : Type 0 where
+  pub ordered : range.0 ≤ range.1
+  pub inside : range.1 ≤ length table
+  pub before : all_else b (take range.0 table) ≡ true
+  pub after : all_else b (drop range.1 table) ≡ true

@@ -1,13 +1,13 @@
 // The tokens of a file.
 ghost use Rattle.std.specs.Prelude.{◌≡◌, ◌+◌, ◌<◌, ◌≤◌, ◌++◌, ◌∷◌, [], OnOk, length};
 ghost use Rattle.nt_lexer.specs.Cuts as spec;
+ghost use Rattle.nt_lexer.specs.Laws.{Ascend};
 ghost use Rattle.nt_lexer.specs.Steps.{Moved, Steps};
-ghost use Rattle.nt_diag.specs.declared.refusal.Fault.TheVariants.{Refused};
 
 use crate::directives::exponent;
 use crate::kinds::{Head, Piece, Token, TokenKind};
 use crate::pieces::piece;
-use nt_diag::{Fault, Refusal, Rule};
+use nt_diag::{Fault, Rule};
 use nt_value::{Place, Unit};
 use std::alloc::{AllocError, Global};
 
@@ -33,7 +33,7 @@ fn step(at: Place, b: u8) -> Place
     ensures column { result.column ≤ result.offset + 1 }
 {
     let offset = at.offset + 1;
-    if b == 10 {
+    if b == b'\n' {
         Place {
             file: at.file,
             offset,
@@ -67,12 +67,6 @@ fn advance(start: Place, text: &[u8]) -> Place
     at
 }
 
-fn refused(rule: Rule, place: Place) -> Fault
-    ensures { result ≡ Refused (record { rule = rule; place = place }) }
-{
-    Fault::Refused(Refusal { rule, place })
-}
-
 // Adds a token at the end.
 fn add(found: &mut Vec<Token>, token: Token) -> Result<(), AllocError>
     ensures { OnOk result (found.new.items ≡ found.old.items ++ token ∷ []) }
@@ -103,24 +97,25 @@ fn take_piece(
         Piece::Skip(len) => Ok(len),
         Piece::Scale(len, unit) => {
             if !agrees(head.unit, unit) {
-                return Err(refused(Rule::X5, at));
+                return Err(Fault::refused(Rule::X5, at));
             }
             head.unit = Some(unit);
             Ok(len)
         }
         Piece::Take(len, kind) => {
             if head.count >= MAX_COUNT {
-                return Err(refused(Rule::X7, at));
+                return Err(Fault::refused(Rule::X7, at));
             }
             add(found, Token { kind, at })?;
             head.count += 1;
             Ok(len)
         }
-        Piece::Wrong(rule, len) => Err(refused(rule, advance(at, &text[..len]))),
+        Piece::Wrong(rule, len) => Err(Fault::refused(rule, advance(at, &text[..len]))),
     }
 }
 
-/// The tokens of a file, the longest from the left, with `End` last. The head goes on from the files before.
+/// The tokens of a file, the longest from the left, with `End` last. They stand in the order of their offsets, and all of
+/// their places are of the file. The head goes on from the files before.
 ///
 /// # Errors
 ///
@@ -129,6 +124,7 @@ pub fn tokens(alloc: Global, file: u32, bytes: &[u8], head: &mut Head) -> Result
     requires within { length bytes.now ≤ 4194304 }
     requires count { head.old.count ≤ 1000000 }
     ensures cut { spec.Cuts file bytes.now head.old result head.new }
+    ensures ascending { Ascend file bytes.now result }
     ensures count { head.new.count ≤ 1000000 }
     ensures unit { spec.HasUnit head.old → spec.HasUnit head.new }
 {

@@ -53,14 +53,14 @@ fn is_radix_digit(radix: Radix, b: u8) -> bool
     ensures { result ≡ spec.is_radix_digit radix b }
 {
     match radix {
-        Radix::Binary => (48 <= b && b <= 49) || is_unknown(b),
-        Radix::Octal => (48 <= b && b <= 55) || is_unknown(b),
+        Radix::Binary => (b'0' <= b && b <= b'1') || is_unknown(b),
+        Radix::Octal => (b'0' <= b && b <= b'7') || is_unknown(b),
         Radix::Decimal => b.is_ascii_digit(),
         Radix::Hex => b.is_ascii_hexdigit() || is_unknown(b),
     }
 }
 
-// Whether the byte may be the one digit of a decimal literal.
+// Whether the byte may be the one unknown digit of a decimal literal.
 #[tactic(auto, unfolding(crate::specs::Numbers::is_lone))]
 fn is_lone(radix: Radix, b: u8) -> bool
     ensures { result ≡ spec.is_lone radix b }
@@ -89,6 +89,17 @@ fn more_digits(radix: Radix, text: &[u8]) -> usize
     end
 }
 
+fn underscores_len(text: &[u8]) -> usize
+    ensures value { result ≡ prefix_len spec.is_underscore text.now }
+    ensures within { result ≤ length text.now }
+{
+    let mut end = 0;
+    while end < text.len() && text[end] == b'_' {
+        end += 1;
+    }
+    end
+}
+
 // How many bytes at the front are digits of the radix.
 #[tactic(auto, unfolding(crate::specs::Numbers::digits_len))]
 fn digits_len(radix: Radix, text: &[u8]) -> usize
@@ -101,7 +112,7 @@ fn digits_len(radix: Radix, text: &[u8]) -> usize
     if is_radix_digit(radix, *first) {
         1 + more_digits(radix, rest)
     } else if is_lone(radix, *first) {
-        1
+        1 + underscores_len(rest)
     } else {
         0
     }
@@ -240,12 +251,12 @@ fn low_decimal(text: &[u8]) -> u64
 fn digit_value(b: u8) -> u8
     ensures { result ≡ spec.digit_value b }
 {
-    if b < 65 {
-        b.saturating_sub(48)
-    } else if b < 97 {
-        b.saturating_sub(55)
+    if b < b'A' {
+        b.saturating_sub(b'0')
+    } else if b < b'a' {
+        b.saturating_sub(b'A' - 10)
     } else {
-        b.saturating_sub(87)
+        b.saturating_sub(b'a' - 10)
     }
 }
 

@@ -1,29 +1,45 @@
 // What stands at the front of a text.
-ghost use Rattle.std.specs.Prelude.{◌≡◌, ◌+◌, ◌<◌, ◌≤◌, IfSome, IfOk, None, Some, drop, length, map, take};
+ghost use Rattle.std.specs.Prelude.{◌≡◌, ◌+◌, ◌-◌, ◌<◌, ◌≤◌, IfSome, IfOk, None, Some, drop, length, map, take};
 ghost use Rattle.nt_lexer.specs.Bytes as bytes;
 ghost use Rattle.nt_lexer.specs.Numbers as numbers;
 ghost use Rattle.nt_lexer.specs.Directives.{named};
 ghost use Rattle.nt_lexer.specs.Pieces as spec;
 ghost use Rattle.nt_lexer.specs.Spellings.{marks, words};
-ghost use Rattle.nt_lexer.specs.Steps.{IsPieceOf};
+ghost use Rattle.nt_lexer.specs.Steps.{IsPieceOf, IsRange};
 ghost use Rattle.nt_lexer.specs.declared.kinds.Piece.TheVariants.{Wrong};
 
 use crate::directives::{default_nettype, timescale};
-use crate::kinds::{Based, MARKS, Mark, Piece, Run, Sort, TokenKind, WORDS, Word};
+use crate::kinds::{
+    Based, HIGH_MARKS, LOW_MARKS, MARKS, MIDDLE_MARKS, Mark, Piece, Run, Sort, TOP_MARKS,
+    TokenKind, WORD_RANGES, WORDS, Word,
+};
 use crate::numbers::{
     based_front, based_literal, decimal, decimal_literal, fill_literal, filling_front, fits_word,
 };
-use crate::scan::{front_len, lookup, run_len, sort};
+use crate::scan::{front_len, lookup_in, run_len, sort};
 use crate::texts::{begins_with, closing, inside_len, text_value};
 use nt_diag::Rule;
 use nt_value::{Name, Text};
 use std::alloc::{AllocError, Global};
 
-#[tactic(auto, unfolding(crate::specs::Spellings::words))]
+// Where the words that begin with the byte stand among all.
+fn word_range(first: u8) -> (usize, usize)
+    ensures { IsRange words first result }
+{
+    if first.is_ascii_lowercase() {
+        WORD_RANGES[usize::from(first - b'a')]
+    } else {
+        (0, 0)
+    }
+}
+
 fn word_named(text: &[u8]) -> Option<Word>
     ensures { result ≡ named words text.now }
 {
-    lookup(&WORDS, text)
+    let [first, ..] = text else {
+        return None;
+    };
+    lookup_in(&WORDS, word_range(*first), text)
 }
 
 fn word_or_name(alloc: Global, text: &[u8]) -> Result<TokenKind, AllocError>
@@ -155,14 +171,39 @@ fn first_mark(mut table: &[(&[u8], Mark)], text: &[u8]) -> Option<(Mark, usize)>
     None
 }
 
+// Where the marks that begin with the byte stand among all. Where none can, that is anywhere.
+fn mark_range(first: u8) -> (usize, usize)
+    ensures { IsRange marks first result }
+{
+    match first {
+        b'!'..=b'/' => LOW_MARKS[usize::from(first - b'!')],
+        b':'..=b'@' => MIDDLE_MARKS[usize::from(first - b':')],
+        b'['..=b'^' => HIGH_MARKS[usize::from(first - b'[')],
+        b'{'..=b'~' => TOP_MARKS[usize::from(first - b'{')],
+        _ => (0, MARKS.len()),
+    }
+}
+
+// The first mark of a part of the table that stands at the front.
+fn mark_in(table: &[(&[u8], Mark)], part: (usize, usize), text: &[u8]) -> Option<(Mark, usize)>
+    requires ordered { part.0 ≤ part.1 }
+    requires inside { part.1 ≤ length table.now }
+    ensures value { result ≡ spec.first_mark (take (part.1 - part.0) (drop part.0 (map (λ m. (m.0.now, m.1)) table.now))) text.now }
+    ensures within { IfSome result (λ found. found.1 ≤ length text.now) }
+{
+    first_mark(&table[part.0..part.1], text)
+}
+
 // The mark at the front.
-#[tactic(auto, unfolding(crate::specs::Spellings::marks))]
 fn mark_at(text: &[u8]) -> Option<(Mark, usize)>
     ensures value { result ≡ spec.first_mark marks text.now }
     ensures some { IfSome result (λ found. 0 < found.1) }
     ensures within { IfSome result (λ found. found.1 ≤ length text.now) }
 {
-    first_mark(&MARKS, text)
+    let [first, ..] = text else {
+        return None;
+    };
+    mark_in(&MARKS, mark_range(*first), text)
 }
 
 fn mark_or(text: &[u8], rule: Rule) -> Piece

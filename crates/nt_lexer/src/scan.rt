@@ -1,5 +1,5 @@
 // Bytes, runs of bytes, and tables of spellings.
-ghost use Rattle.std.specs.Prelude.{◌≡◌, ◌<◌, ◌≤◌, length, map};
+ghost use Rattle.std.specs.Prelude.{◌≡◌, ◌-◌, ◌<◌, ◌≤◌, drop, length, map, take};
 ghost use Rattle.std.specs.List.{prefix_len};
 ghost use Rattle.nt_lexer.specs.Bytes as spec;
 ghost use Rattle.nt_lexer.specs.Directives.{named};
@@ -97,4 +97,17 @@ pub(crate) fn lookup<T: Copy>(mut table: &[(&[u8], T)], text: &[u8]) -> Option<T
         table = rest;
     }
     None
+}
+
+// What a part of the table says of the spelling.
+pub(crate) fn lookup_in<T: Copy>(
+    table: &[(&[u8], T)],
+    part: (usize, usize),
+    text: &[u8],
+) -> Option<T>
+    requires ordered { part.0 ≤ part.1 }
+    requires inside { part.1 ≤ length table.now }
+    ensures { result ≡ named (take (part.1 - part.0) (drop part.0 (map (λ m. (m.0.now, m.1)) table.now))) text.now }
+{
+    lookup(&table[part.0..part.1], text)
 }

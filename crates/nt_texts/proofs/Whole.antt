@@ -15,7 +15,7 @@ use Rattle.nt_parse_expr.specs.declared.cursor.Cursor.{Cursor}
 use Rattle.nt_parse_expr.proofs.Theorem.{one_only}
 use Rattle.nt_parse_stmt.specs.Readings.{StatementDerives, ReadsStatement}
 use Rattle.nt_parse_stmt.proofs.Theorem.{one_only as one_statement}
-use Rattle.nt_tests.specs.Texts.{CutInto, ExpressionOf, StatementOf, IsExpression, IsStatement, fresh}
+use Rattle.nt_texts.specs.Texts.{CutInto, ExpressionOf, StatementOf, IsExpression, IsStatement, fresh}
 
 -- the end stands in each list
 pub some_token : {file : ℕ} {bytes : Bytes} {at : ℕ} {head last : Head} {ts : List Token} → Lexes file bytes at head ts last → 0 < length ts

@@ -1,6 +1,6 @@
 // All of a text as one expression or one statement.
 ghost use Rattle.std.specs.Prelude.{◌≤◌, length};
-ghost use Rattle.nt_tests.specs.Texts.{ExpressionOf, StatementOf};
+ghost use Rattle.nt_texts.specs.Texts.{ExpressionOf, StatementOf};
 
 use nt_ast::{Expr, Stmt};
 use nt_diag::{Fault, Refusal, Rule};

@@ -1,6 +1,7 @@
 use Rattle.std.proofs.Common.{◌∙◌, refl, take, arith, length-take}
 use Rattle.nt_lexer.specs.Cuts.{place_after}
 use Rattle.nt_lexer.proofs.Cutting.{tail, fits_here, place_next, next_lexes, next_stuck, fails_here, ends_here, starts_here}
+use Rattle.nt_lexer.proofs.Lists.{each}
 use Rattle.nt_lexer.proofs.cut.tokens.Goals as goal
 
 pub loop-at-init : goal.loop-at-init
@@ -45,3 +46,6 @@ pub returns-clause-cut : goal.returns-clause-cut
 returns-clause-cut c =
     ends_here c.args.file c.args.bytes.now c.loop-at.at c.args.head.now c.loop-at.now c.loop-at.place c.loop-at.found.items c.add.new.found.items c.loop-at.invariant.within c.loop-at-test.false
     c.loop-at.invariant.place c.in_ok-add.ensures c.loop-at.invariant.lexes
+
+pub returns-clause-ascending : goal.returns-clause-ascending
+returns-clause-ascending c = (each (returns-clause-cut c)).ascends

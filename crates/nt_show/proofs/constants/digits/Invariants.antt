@@ -1,6 +1,6 @@
 -- The leaf stays.
 use Rattle.std.proofs.Common.{◌≡◌}
-use Rattle.nt_tests.proofs.constants.digits.Given as goal
+use Rattle.nt_show.proofs.constants.digits.Given as goal
 
 abbrev pub invariant-loop-at : goal.invariant-loop-at
 invariant-loop-at l = l.bits.leaf ≡ l.leaf

@@ -1,6 +1,6 @@
 -- The leaf stays.
 use Rattle.std.proofs.Common.{◌≡◌}
-use Rattle.nt_tests.proofs.constants.number.Given as goal
+use Rattle.nt_show.proofs.constants.number.Given as goal
 
 abbrev pub invariant-loop-at : goal.invariant-loop-at
 invariant-loop-at l = l.bits.leaf ≡ l.fn.leaf

@@ -1,8 +1,8 @@
 use Rattle.std.proofs.Common.{◌≡◌, Err, ap, sym, ◌∙◌, refl, arith, subst, inr}
 use Rattle.std.proofs.lemmas.Result.{err_from_is_err_and}
-use Rattle.nt_tests.specs.Texts.{ExpressionOf}
-use Rattle.nt_tests.proofs.Whole.{some_token, refused_expression, more_than_expression}
-use Rattle.nt_tests.proofs.texts.expression_of.Goals as goal
+use Rattle.nt_texts.specs.Texts.{ExpressionOf}
+use Rattle.nt_texts.proofs.Whole.{some_token, refused_expression, more_than_expression}
+use Rattle.nt_texts.proofs.texts.expression_of.Goals as goal
 
 pub expression-requires : goal.expression-requires
 expression-requires c = some_token c.in_ok-list.ensures.cut

@@ -1,8 +1,8 @@
 use Rattle.std.proofs.Common.{◌≡◌, Err, ap, sym, ◌∙◌, refl, arith, subst, inr}
 use Rattle.std.proofs.lemmas.Result.{err_from_is_err_and}
-use Rattle.nt_tests.specs.Texts.{StatementOf}
-use Rattle.nt_tests.proofs.Whole.{some_token, refused_statement, more_than_statement}
-use Rattle.nt_tests.proofs.texts.statement_of.Goals as goal
+use Rattle.nt_texts.specs.Texts.{StatementOf}
+use Rattle.nt_texts.proofs.Whole.{some_token, refused_statement, more_than_statement}
+use Rattle.nt_texts.proofs.texts.statement_of.Goals as goal
 
 pub statement-requires : goal.statement-requires
 statement-requires c = some_token c.in_ok-list.ensures.cut
