@@ -322,7 +322,7 @@ def faults(tree):
         inside = faults(one)
         if not inside and i in counts + widths and not is_known(own(one)):
             inside = [(one.at, 3)]
-        elif not inside and i in counts and own_number(one) < 0:
+        elif not inside and i in counts and not 0 <= own_number(one) < 2**32:
             inside = [(one.at, 3)]
         found += inside
     if not found and tree.kind in ("{", "rep", "[:]", "[+:]", "[-:]") and not 1 <= alone(tree)[0] <= 64:

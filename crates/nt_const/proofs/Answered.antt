@@ -4,7 +4,7 @@ use Rattle.nt_value.specs.Digits.{LeafValue}
 use Rattle.nt_value.specs.Operators.{unsigned_leaf, resize_of, unary_of, binary_of, merge_of}
 use Rattle.nt_value.specs.declared.leaf.Leaf.{Leaf}
 use Rattle.nt_ast.specs.declared.expr.Expr.{Expr}
-use Rattle.nt_const.specs.Tables.{full, with_sign, bit, unary_leaf, unary_in, binary_leaf, left_in, right_in, choice_leaf, literal_in, count_of, width_of, taken, indexed_of, joint, times}
+use Rattle.nt_const.specs.Tables.{with_sign, bit, unary_leaf, unary_in, binary_leaf, left_in, right_in, choice_leaf, literal_in, count_of, width_of, taken, indexed_of, joint, times}
 use Rattle.nt_const.specs.Rules.{Names, Node, Alone, literal, read, item, part, indexed, unary, binary, choose, concat, repeated, sign, Parts, none, more, Within, literal_within, read_within, item_within, part_within, indexed_within, unary_within, binary_within, choose_within, concat_within, repeated_within, sign_within, Own, itself, Owns, no_values, more_values}
 
 pub ap2 : {A B C : Type 0} (f : A → B → C) {a c : A} {b d : B} → a ≡ c → b ≡ d → f a b ≡ f c d
@@ -70,7 +70,7 @@ mutual
   within_one (sign_within at s x v) (sign_within _ _ _ w) h = ap2 resize_of (own_one v w) h
 
   pub own_one : {k : Names} {x : Node} {v w : LeafValue} → Own k x v → Own k x w → v ≡ w
-  own_one (itself x a v) (itself _ b w) = let e = alone_one a b in ap2 resize_of (within_one v w (ap full e)) e
+  own_one (itself x a v) (itself _ b w) = within_one v w (alone_one a b)
 
   pub owns_one : {k : Names} {xs : List Expr} {vs ws : List LeafValue} → Owns k xs vs → Owns k xs ws → vs ≡ ws
   owns_one no_values no_values = refl

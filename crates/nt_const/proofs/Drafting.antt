@@ -17,7 +17,7 @@ use Rattle.nt_ast.specs.declared.expr.Expr.TheOpen.{Expr-F}
 use Rattle.nt_ast.specs.declared.expr.Expr.TheViews.{out-Expr}
 use Rattle.nt_const.specs.declared.draft.Draft.{Draft}
 use Rattle.nt_const.specs.declared.walk.Several.{Several}
-use Rattle.nt_const.specs.Tables.{full, with_sign, bit, binary_leaf, choice_leaf, unary_leaf, Counts, IsKnown, IsWidth, count_of, width_of, indexed_of, joint, joint_from, path_name}
+use Rattle.nt_const.specs.Tables.{with_sign, bit, binary_leaf, choice_leaf, unary_leaf, Counts, IsKnown, IsWidth, count_of, width_of, indexed_of, joint, joint_from, path_name}
 use Rattle.nt_const.specs.Drafts.{OfLiteral, OfClosed, OfUnary, OfBinary, OfChoose, draft_leaf, draft_value, own_value, IsMemory}
 use Rattle.nt_const.specs.Rules.{Names, Node, Alone, literal, read, item, part, indexed, unary, binary, choose, concat, repeated, sign, Parts, none, more, Within, literal_within, read_within, item_within, part_within, indexed_within, unary_within, binary_within, choose_within, concat_within, repeated_within, sign_within, Own, itself, Owns, no_values, more_values, bad_width, bad_product, bad_range, bad_indexed, Need, free, count}
 use Rattle.nt_const.specs.Tells.{Refuses, RefusesOne}
@@ -97,7 +97,7 @@ pub made_closed : (k : Names) (x : Node) (l : Leaf) (v : LeafValue) → Alone k 
 made_closed k x l v a w = made k x (OfClosed l v) l (λ c. resize_of v c) (leaf_closed l v) (value_closed l v) a w
 
 pub own_of : (k : Names) (x : Node) (a : Draft) → Drafted k x a → Own k x (own_value a)
-own_of k x a h = itself x h.leaf (h.value (full (draft_leaf a)))
+own_of k x a h = itself x h.leaf (h.value (draft_leaf a))
 
 pub drafted_literal : (k : Names) (at : Place) (v : Literal) → Drafted k (Expr-F.Literal at v) (OfLiteral v)
 drafted_literal k at v = made k _ (OfLiteral v) _ _ (leaf_literal v.bits.leaf v) (value_literal v.bits.leaf v) (literal at v) (λ c. literal_within at v)

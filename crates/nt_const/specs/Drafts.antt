@@ -12,7 +12,7 @@ use Rattle.nt_const.specs.declared.draft.Draft.{Draft}
 use Rattle.nt_const.specs.declared.draft.Draft.TheOpen.{Draft-F}
 use Rattle.nt_const.specs.declared.draft.Draft.TheVariants as d
 use Rattle.nt_const.specs.declared.draft.Draft.TheFolds.{fold-Draft}
-use Rattle.nt_const.specs.Tables.{full, unary_in, left_in, right_in, literal_in}
+use Rattle.nt_const.specs.Tables.{unary_in, left_in, right_in, literal_in}
 
 -- a leaf, and a value in each context
 pub record Closing : Type 0 where
@@ -38,7 +38,7 @@ draft_value a c = (closing a).value c
 
 -- the value of a draft by itself
 abbrev pub own_value : Draft → LeafValue
-own_value a = resize_of (draft_value a (full (draft_leaf a))) (draft_leaf a)
+own_value a = draft_value a (draft_leaf a)
 
 -- the only fault is want of memory
 abbrev pub IsMemory : {A : Type 0} → Result A Failure → Type 0

@@ -14,7 +14,7 @@ use Rattle.nt_ast.specs.declared.expr.Key.{Key}
 use Rattle.nt_ast.specs.declared.expr.Expr.{Expr}
 use Rattle.nt_ast.specs.declared.expr.Expr.TheOpen.{Expr-F}
 use Rattle.nt_ast.specs.declared.expr.Expr.TheViews.{out-Expr}
-use Rattle.nt_const.specs.Tables.{full, with_sign, bit, unary_leaf, unary_in, binary_leaf, left_in, right_in, choice_leaf, literal_in, IsWidth, IsKnown, Counts, count_of, width_of, taken, indexed_of, joint, times, path_name}
+use Rattle.nt_const.specs.Tables.{with_sign, bit, unary_leaf, unary_in, binary_leaf, left_in, right_in, choice_leaf, literal_in, IsWidth, IsKnown, Counts, count_of, width_of, taken, indexed_of, joint, times, path_name}
 
 -- a tree's first node, with trees below it
 abbrev pub Node : Type 0
@@ -97,7 +97,7 @@ mutual
 
   -- the value of an expression by itself
   pub data Own : Names → Node → LeafValue → Type 0 where
-    itself : {k : Names} {l : Leaf} {v : LeafValue} (x : Node) → Alone k x l → Within k x (full l) v → Own k x (resize_of v l)
+    itself : {k : Names} {l : Leaf} {v : LeafValue} (x : Node) → Alone k x l → Within k x l v → Own k x v
 
   -- the values of several, each by itself
   pub data Owns : Names → List Expr → List LeafValue → Type 0 where

@@ -1,5 +1,5 @@
 -- Leaves of operands and results, and values that need no other expression.
-use Rattle.std.specs.Prelude.{◌≡◌, ℕ, zero, suc, ◌+◌, ◌-◌, ◌^◌, ◌≤◌, nat_lt, nat_le, max, min, Bool, true, false, not, ◌&&◌, ◌||◌, if◌then◌else◌, List, [], ◌∷◌, ◌++◌, Option, Some, None, slice_get, codes, nat_eq}
+use Rattle.std.specs.Prelude.{◌≡◌, ℕ, zero, suc, ◌+◌, ◌-◌, ◌^◌, ◌<◌, ◌≤◌, nat_lt, nat_le, max, min, Bool, true, false, not, ◌&&◌, ◌||◌, if◌then◌else◌, List, [], ◌∷◌, ◌++◌, Option, Some, None, slice_get, codes, nat_eq}
 use Rattle.std.specs.Cmp.Lexicographic.{pointwise}
 use Rattle.nt_value.specs.Digits.{LeafValue, is_known, is_one, all_known, number_of}
 use Rattle.nt_value.specs.Values.{default_leaf}
@@ -14,8 +14,7 @@ use Rattle.nt_value.specs.declared.operator.Binary.{Binary}
 use Rattle.nt_value.specs.declared.operator.Binary.TheVariants as o
 use Rattle.nt_ast.specs.declared.path.Path.{Path}
 
--- the leaf in four states. An operator works as if all its operands had four
--- (IEEE 1800-2017, 11.3.4): contexts have four states, and only a finished value loses its x
+-- the leaf in four states
 abbrev pub full : Leaf → Leaf
 full l = record { width = l.width; signed = l.signed; four = true }
 
@@ -54,18 +53,19 @@ unary_leaf u.RedNor l = bit l.four
 unary_leaf u.RedXor l = bit l.four
 unary_leaf u.RedXnor l = bit l.four
 
--- the leaf that the operand takes where the operator takes c
+-- The leaf that the operand takes where the operator takes c. A context has the states of the expression's own leaf: four
+-- where an x can arise in it.
 abbrev pub unary_in : Unary → Leaf → Leaf → Leaf
 unary_in u.Plus c l = c
 unary_in u.Minus c l = c
 unary_in u.Not c l = c
-unary_in u.LogicalNot c l = full l
-unary_in u.RedAnd c l = full l
-unary_in u.RedNand c l = full l
-unary_in u.RedOr c l = full l
-unary_in u.RedNor c l = full l
-unary_in u.RedXor c l = full l
-unary_in u.RedXnor c l = full l
+unary_in u.LogicalNot c l = l
+unary_in u.RedAnd c l = l
+unary_in u.RedNand c l = l
+unary_in u.RedOr c l = l
+unary_in u.RedNor c l = l
+unary_in u.RedXor c l = l
+unary_in u.RedXnor c l = l
 
 -- the leaf of an operator by itself, from those of its operands (IEEE 1800-2017, 11.6.1, Table 11-21)
 abbrev pub binary_leaf : Binary → Leaf → Leaf → Leaf
@@ -107,16 +107,16 @@ left_in o.Xnor c a b = c
 left_in o.Shl c a b = c
 left_in o.Shr c a b = c
 left_in o.Sshr c a b = c
-left_in o.Lt c a b = full (joined a b)
-left_in o.Le c a b = full (joined a b)
-left_in o.Gt c a b = full (joined a b)
-left_in o.Ge c a b = full (joined a b)
-left_in o.Eq c a b = full (joined a b)
-left_in o.Ne c a b = full (joined a b)
-left_in o.CaseEq c a b = full (joined a b)
-left_in o.CaseNe c a b = full (joined a b)
-left_in o.LogicalAnd c a b = full a
-left_in o.LogicalOr c a b = full a
+left_in o.Lt c a b = joined a b
+left_in o.Le c a b = joined a b
+left_in o.Gt c a b = joined a b
+left_in o.Ge c a b = joined a b
+left_in o.Eq c a b = joined a b
+left_in o.Ne c a b = joined a b
+left_in o.CaseEq c a b = joined a b
+left_in o.CaseNe c a b = joined a b
+left_in o.LogicalAnd c a b = a
+left_in o.LogicalOr c a b = a
 
 -- and the right one: the amount of a shift has its own
 abbrev pub right_in : Binary → Leaf → Leaf → Leaf → Leaf
@@ -129,19 +129,19 @@ right_in o.And c a b = c
 right_in o.Or c a b = c
 right_in o.Xor c a b = c
 right_in o.Xnor c a b = c
-right_in o.Shl c a b = full b
-right_in o.Shr c a b = full b
-right_in o.Sshr c a b = full b
-right_in o.Lt c a b = full (joined a b)
-right_in o.Le c a b = full (joined a b)
-right_in o.Gt c a b = full (joined a b)
-right_in o.Ge c a b = full (joined a b)
-right_in o.Eq c a b = full (joined a b)
-right_in o.Ne c a b = full (joined a b)
-right_in o.CaseEq c a b = full (joined a b)
-right_in o.CaseNe c a b = full (joined a b)
-right_in o.LogicalAnd c a b = full b
-right_in o.LogicalOr c a b = full b
+right_in o.Shl c a b = b
+right_in o.Shr c a b = b
+right_in o.Sshr c a b = b
+right_in o.Lt c a b = joined a b
+right_in o.Le c a b = joined a b
+right_in o.Gt c a b = joined a b
+right_in o.Ge c a b = joined a b
+right_in o.Eq c a b = joined a b
+right_in o.Ne c a b = joined a b
+right_in o.CaseEq c a b = joined a b
+right_in o.CaseNe c a b = joined a b
+right_in o.LogicalAnd c a b = b
+right_in o.LogicalOr c a b = b
 
 -- the leaf of `?:` by itself: an unknown test gives x (IEEE 1800-2017, 11.4.11)
 abbrev pub choice_leaf : Leaf → Leaf → Leaf → Leaf
@@ -181,9 +181,9 @@ is_negative v = v.leaf.signed && is_one (highest v)
 abbrev pub IsKnown : LeafValue → Type 0
 IsKnown v = all_known v.digits ≡ true
 
--- a bound or count: known, and not below 0
+-- a bound or count: known, not below 0, and below 2^32, which is this project's limit
 abbrev pub Counts : LeafValue → Type 0
-Counts v = IsKnown v × (is_negative v ≡ false)
+Counts v = IsKnown v × (is_negative v ≡ false) × (number_of v.digits < 2 ^ 32)
 
 abbrev pub count_of : LeafValue → ℕ
 count_of v = number_of v.digits
@@ -244,8 +244,8 @@ times (suc n) v = added (times n v) v
 
 -- the leaf that an expression takes where its value goes to another (IEEE 1800-2017, 11.8.2, 10.7)
 abbrev pub context : Option Leaf → Leaf → Leaf
-context None l = full l
-context (Some to) l = record { width = max to.width l.width; signed = l.signed; four = true }
+context None l = l
+context (Some to) l = record { width = max to.width l.width; signed = l.signed; four = l.four }
 
 -- its leaf in the end
 abbrev pub target : Option Leaf → Leaf → Leaf

@@ -4,7 +4,7 @@ ghost use Rattle.nt_const.specs.Tables.{binary_leaf, choice_leaf, unary_leaf};
 ghost use Rattle.nt_const.specs.Drafts.{IsMemory, OfBinary, OfChoose, OfUnary, draft_leaf, draft_value, own_value};
 
 use crate::size::{
-    Size, binary_size, choice_size, in_four, left_context, right_context, unary_context, unary_size,
+    Size, binary_size, choice_size, left_context, right_context, unary_context, unary_size,
 };
 use crate::value::literal_at;
 use nt_diag::Fault;
@@ -98,8 +98,7 @@ pub(crate) fn close(draft: &Draft, context: Size) -> Bits
 pub(crate) fn own(draft: &Draft) -> Bits
     ensures { result ≡ own_value draft.now }
 {
-    let size = size_of(draft);
-    resize(close(draft, in_four(size)), size.leaf())
+    close(draft, size_of(draft))
 }
 
 pub(crate) fn unary_draft(alloc: Global, op: Unary, a: Draft) -> Result<Draft, Fault>

@@ -7,8 +7,8 @@ ghost use Rattle.nt_const.specs.Tables.{context, named, target};
 use crate::Constants;
 use crate::draft::{close, size_of};
 use crate::forms::hides;
-use crate::size::{Size, in_four};
-use crate::walk::{draft, place, refused};
+use crate::size::Size;
+use crate::walk::{draft, place};
 use nt_ast::Expr;
 use nt_diag::{Fault, Rule};
 use nt_value::{Bits, Leaf, resize};
@@ -20,10 +20,10 @@ fn context_of(to: Option<Leaf>, size: Size) -> Size
     ensures { result ≡ context to size }
 {
     match to {
-        None => in_four(size),
+        None => size,
         Some(to) => {
             let leaf = size.leaf();
-            Size::of(to.width.max(leaf.width), leaf.signed, true)
+            Size::of(to.width.max(leaf.width), leaf.signed, leaf.four)
         }
     }
 }
@@ -43,14 +43,14 @@ fn target_of(to: Option<Leaf>, size: Size) -> Size
 ///
 /// A refusal is the least fault by file, offset and rule: T1 at the whole expression, where a part stands in it that no
 /// names could make constant; T2 at a select, concatenation or replication of less than 1 or more than 64 digits; T3 at a
-/// bound, width or count that has an x or z, and at a bound or count that is below 0; T4 at a name that `known` lacks.
+/// bound, width or count that has an x or z, and at a bound or count that is below 0 or over 2^32 - 1; T4 at a name that `known` lacks.
 /// Want of memory is the only other failure. The time is linear in the size of the expression, but for the search for each name.
 pub fn width_and_sign(alloc: Global, expr: &Expr, known: &Constants) -> Result<Leaf, Fault>
     ensures answer { Sizes (named known.now) (out-Expr expr.now) result }
     ensures faultless { Faultless (named known.now) (out-Expr expr.now) result }
 {
     if hides(expr) {
-        return Err(refused(Rule::T1, place(expr)));
+        return Err(Fault::refused(Rule::T1, place(expr)));
     }
     let a = draft(alloc, expr, known)?;
     Ok(size_of(&a).leaf())
@@ -72,7 +72,7 @@ pub fn constant(
     ensures faultless { Faultless (named known.now) (out-Expr expr.now) result }
 {
     if hides(expr) {
-        return Err(refused(Rule::T1, place(expr)));
+        return Err(Fault::refused(Rule::T1, place(expr)));
     }
     let a = draft(alloc, expr, known)?;
     let size = size_of(&a);

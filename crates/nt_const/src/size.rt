@@ -55,7 +55,7 @@ impl Size {
 }
 
 // The leaf in four states.
-pub(crate) fn in_four(size: Size) -> Size
+fn in_four(size: Size) -> Size
     ensures { result ≡ full size }
 {
     let leaf = size.leaf();
@@ -139,7 +139,7 @@ pub(crate) fn unary_context(op: Unary, context: Size, a: Size) -> Size
         | Unary::RedOr
         | Unary::RedNor
         | Unary::RedXor
-        | Unary::RedXnor => in_four(a),
+        | Unary::RedXnor => a,
     }
 }
 
@@ -192,8 +192,8 @@ pub(crate) fn left_context(op: Binary, context: Size, a: Size, b: Size) -> Size
         | Binary::Eq
         | Binary::Ne
         | Binary::CaseEq
-        | Binary::CaseNe => in_four(join(a, b)),
-        Binary::LogicalAnd | Binary::LogicalOr => in_four(a),
+        | Binary::CaseNe => join(a, b),
+        Binary::LogicalAnd | Binary::LogicalOr => a,
     }
 }
 
@@ -217,10 +217,8 @@ pub(crate) fn right_context(op: Binary, context: Size, a: Size, b: Size) -> Size
         | Binary::Eq
         | Binary::Ne
         | Binary::CaseEq
-        | Binary::CaseNe => in_four(join(a, b)),
-        Binary::Shl | Binary::Shr | Binary::Sshr | Binary::LogicalAnd | Binary::LogicalOr => {
-            in_four(b)
-        }
+        | Binary::CaseNe => join(a, b),
+        Binary::Shl | Binary::Shr | Binary::Sshr | Binary::LogicalAnd | Binary::LogicalOr => b,
     }
 }
 

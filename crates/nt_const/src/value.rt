@@ -67,14 +67,17 @@ fn is_negative(a: Bits) -> bool
     }
 }
 
-// Whether a value is a bound or count: known, and not below 0.
+// Whether a value is a bound or count: known, not below 0, and below 2^32.
 pub(crate) fn counts(a: Bits) -> bool
     ensures { IsTrue result ↔ Counts a }
 {
     if !a.is_known() {
         return false;
     }
-    !is_negative(a)
+    if is_negative(a) {
+        return false;
+    }
+    a.magnitude() <= u64::from(u32::MAX)
 }
 
 // The width that a known value asks for: below 0 it is none, as 0 is.

@@ -1,6 +1,5 @@
 // The draft of an expression, in one walk.
 ghost use Rattle.std.specs.Prelude.{◌≡◌, ◌≤◌, ◌*◌, ℕ, ◌||◌, ◌++◌, codes, min, true, IfOk};
-ghost use Rattle.nt_diag.specs.declared.refusal.Fault.TheVariants.{Refused};
 ghost use Rattle.nt_ast.specs.declared.expr.Expr.TheOpen.{Expr-F};
 ghost use Rattle.nt_ast.specs.declared.expr.Expr.TheViews.{out-Expr};
 ghost use Rattle.nt_const.specs.Drafts.{OfClosed, OfLiteral, draft_leaf, own_value};
@@ -13,7 +12,7 @@ use crate::draft::{Draft, binary_draft, choose_draft, own, size_of, unary_draft}
 use crate::size::{Size, one_bit, signed_as};
 use crate::value::{add, counts, indexed, repeat, taken, width_of};
 use nt_ast::{Expr, Path};
-use nt_diag::{Fault, Refusal, Rule};
+use nt_diag::{Fault, Rule};
 use nt_value::{Bits, Literal, Name, Place};
 use std::alloc::{AllocError, Global};
 
@@ -23,12 +22,6 @@ pub(crate) struct Several {
     pub(crate) width: u16,
     pub(crate) four: bool,
     pub(crate) value: Option<Bits>,
-}
-
-pub(crate) fn refused(rule: Rule, place: Place) -> Fault
-    ensures { result ≡ Refused (record { rule = rule; place = place }) }
-{
-    Fault::Refused(Refusal { rule, place })
 }
 
 // Where an expression begins.
@@ -153,11 +146,11 @@ fn part_draft(at: Place, a: Draft, left: u64, right: u64) -> Result<Draft, Fault
     ensures { PartGives at a left right result }
 {
     if left < right {
-        return Err(refused(Rule::T2, at));
+        return Err(Fault::refused(Rule::T2, at));
     }
     let more = left - right;
     if more > 63 {
-        return Err(refused(Rule::T2, at));
+        return Err(Fault::refused(Rule::T2, at));
     }
     let width = more as u8 + 1;
     Ok(Draft::Closed {
@@ -170,7 +163,7 @@ fn indexed_draft(at: Place, up: bool, a: Draft, base: Draft, width: u64) -> Resu
     ensures { IndexedGives at up a base width result }
 {
     if width < 1 || width > 64 {
-        return Err(refused(Rule::T2, at));
+        return Err(Fault::refused(Rule::T2, at));
     }
     let width = width as u8;
     Ok(Draft::Closed {
@@ -183,10 +176,10 @@ fn concat_draft(at: Place, all: Several) -> Result<Draft, Fault>
     ensures { Concats at all result }
 {
     match all.value {
-        None => Err(refused(Rule::T2, at)),
+        None => Err(Fault::refused(Rule::T2, at)),
         Some(value) => match flat(all.width, all.four) {
             Some(size) => Ok(Draft::Closed { size, value }),
-            None => Err(refused(Rule::T2, at)),
+            None => Err(Fault::refused(Rule::T2, at)),
         },
     }
 }
@@ -195,13 +188,13 @@ fn repeat_draft(at: Place, count: u64, all: Several) -> Result<Draft, Fault>
     ensures { RepeatGives at count all result }
 {
     match all.value {
-        None => Err(refused(Rule::T2, at)),
+        None => Err(Fault::refused(Rule::T2, at)),
         Some(value) => match flat(product(count, all.width), all.four) {
             Some(size) => match repeat(count, value) {
                 Some(value) => Ok(Draft::Closed { size, value }),
-                None => Err(refused(Rule::T2, at)),
+                None => Err(Fault::refused(Rule::T2, at)),
             },
-            None => Err(refused(Rule::T2, at)),
+            None => Err(Fault::refused(Rule::T2, at)),
         },
     }
 }
@@ -214,7 +207,7 @@ fn read_draft(alloc: Global, at: Place, path: &Path, known: &Constants) -> Resul
             size: Size::new(value.leaf()),
             value,
         }),
-        None => Err(refused(Rule::T4, at)),
+        None => Err(Fault::refused(Rule::T4, at)),
     }
 }
 
@@ -228,7 +221,7 @@ fn counted(alloc: Global, expr: &Expr, known: &Constants) -> Result<u64, Fault>
     if counts(value) {
         Ok(value.magnitude())
     } else {
-        Err(refused(Rule::T3, place(expr)))
+        Err(Fault::refused(Rule::T3, place(expr)))
     }
 }
 
@@ -242,7 +235,7 @@ fn measured(alloc: Global, expr: &Expr, known: &Constants) -> Result<u64, Fault>
     if value.is_known() {
         Ok(width_of(value))
     } else {
-        Err(refused(Rule::T3, place(expr)))
+        Err(Fault::refused(Rule::T3, place(expr)))
     }
 }
 
@@ -254,11 +247,11 @@ pub(crate) fn draft(alloc: Global, expr: &Expr, known: &Constants) -> Result<Dra
     match expr {
         Expr::Literal { value, .. } => Ok(literal_draft(*value)),
         Expr::Read { at, path } => read_draft(alloc, *at, path, known),
-        Expr::Member { at, .. } => Err(refused(Rule::T1, *at)),
-        Expr::Pattern { at, .. } => Err(refused(Rule::T1, *at)),
-        Expr::Call { at, .. } => Err(refused(Rule::T1, *at)),
-        Expr::Size { at, .. } => Err(refused(Rule::T1, *at)),
-        Expr::Time { at } => Err(refused(Rule::T1, *at)),
+        Expr::Member { at, .. } => Err(Fault::refused(Rule::T1, *at)),
+        Expr::Pattern { at, .. } => Err(Fault::refused(Rule::T1, *at)),
+        Expr::Call { at, .. } => Err(Fault::refused(Rule::T1, *at)),
+        Expr::Size { at, .. } => Err(Fault::refused(Rule::T1, *at)),
+        Expr::Time { at } => Err(Fault::refused(Rule::T1, *at)),
         Expr::Item { of, index, .. } => {
             let a = draft(alloc, of.get(), known)?;
             let b = draft(alloc, index.get(), known)?;

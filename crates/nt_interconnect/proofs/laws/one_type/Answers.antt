@@ -1,0 +1,4 @@
+use Rattle.nt_interconnect.proofs.laws.one_type.Goals as goal
+
+pub returns : goal.returns
+returns c = ?
