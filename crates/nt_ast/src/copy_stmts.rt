@@ -21,6 +21,14 @@ fn copy_events(alloc: Global, on: &Items<(Edge, Expr)>) -> Result<Items<(Edge, E
     Ok(all)
 }
 
+/// An equal tree in a box.
+fn copy_expr_box(alloc: Global, expr: &Expr) -> Result<Boxed<Expr>, AllocError>
+    ensures { IfOk result (λ copy. copy ≡ expr.now) }
+{
+    Boxed::new(alloc, copy_expr(alloc, expr)?)
+}
+
+// A bare tree is alive at no exit: the boxes of a node are copied first.
 /// An equal tree.
 #[cycle(copy_stmts)]
 pub fn copy_stmt(alloc: Global, stmt: &Stmt) -> Result<Stmt, AllocError>
@@ -33,27 +41,27 @@ pub fn copy_stmt(alloc: Global, stmt: &Stmt) -> Result<Stmt, AllocError>
             Ok(Stmt::Block { at: *at, items })
         }
         Stmt::Assign { at, left, right } => {
-            let left = copy_expr(alloc, left)?;
+            let left = copy_expr_box(alloc, left)?;
             let right = copy_expr(alloc, right)?;
             Ok(Stmt::Assign {
                 at: *at,
-                left,
+                left: left.into_inner(),
                 right,
             })
         }
         Stmt::Nonblocking { at, left, right } => {
-            let left = copy_expr(alloc, left)?;
+            let left = copy_expr_box(alloc, left)?;
             let right = copy_expr(alloc, right)?;
             Ok(Stmt::Nonblocking {
                 at: *at,
-                left,
+                left: left.into_inner(),
                 right,
             })
         }
         Stmt::If { at, test, yes, no } => {
-            let test = copy_expr(alloc, test)?;
             let yes = copy_stmt_box(alloc, yes)?;
             let no = copy_else(alloc, no)?;
+            let test = copy_expr(alloc, test)?;
             Ok(Stmt::If {
                 at: *at,
                 test,
@@ -67,9 +75,9 @@ pub fn copy_stmt(alloc: Global, stmt: &Stmt) -> Result<Stmt, AllocError>
             arms,
             other,
         } => {
-            let test = copy_expr(alloc, test)?;
             let arms = copy_arms(alloc, arms)?;
             let other = copy_else(alloc, other)?;
+            let test = copy_expr(alloc, test)?;
             Ok(Stmt::Case {
                 at: *at,
                 test,
@@ -78,8 +86,8 @@ pub fn copy_stmt(alloc: Global, stmt: &Stmt) -> Result<Stmt, AllocError>
             })
         }
         Stmt::While { at, test, body } => {
-            let test = copy_expr(alloc, test)?;
             let body = copy_stmt_box(alloc, body)?;
+            let test = copy_expr(alloc, test)?;
             Ok(Stmt::While {
                 at: *at,
                 test,
@@ -87,8 +95,8 @@ pub fn copy_stmt(alloc: Global, stmt: &Stmt) -> Result<Stmt, AllocError>
             })
         }
         Stmt::Repeat { at, count, body } => {
-            let count = copy_expr(alloc, count)?;
             let body = copy_stmt_box(alloc, body)?;
+            let count = copy_expr(alloc, count)?;
             Ok(Stmt::Repeat {
                 at: *at,
                 count,
@@ -105,15 +113,15 @@ pub fn copy_stmt(alloc: Global, stmt: &Stmt) -> Result<Stmt, AllocError>
             body,
         } => {
             let name = name.copy(alloc)?;
-            let first = copy_expr(alloc, first)?;
-            let test = copy_expr(alloc, test)?;
+            let first = copy_expr_box(alloc, first)?;
             let step = copy_stmt_box(alloc, step)?;
             let body = copy_stmt_box(alloc, body)?;
+            let test = copy_expr(alloc, test)?;
             Ok(Stmt::For {
                 at: *at,
                 fresh: *fresh,
                 name,
-                first,
+                first: first.into_inner(),
                 test,
                 step,
                 body,
@@ -140,8 +148,8 @@ pub fn copy_stmt(alloc: Global, stmt: &Stmt) -> Result<Stmt, AllocError>
             })
         }
         Stmt::Delay { at, amount, body } => {
-            let amount = copy_expr(alloc, amount)?;
             let body = copy_stmt_box(alloc, body)?;
+            let amount = copy_expr(alloc, amount)?;
             Ok(Stmt::Delay {
                 at: *at,
                 amount,
@@ -159,8 +167,8 @@ pub fn copy_stmt(alloc: Global, stmt: &Stmt) -> Result<Stmt, AllocError>
             })
         }
         Stmt::Wait { at, test, body } => {
-            let test = copy_expr(alloc, test)?;
             let body = copy_stmt_box(alloc, body)?;
+            let test = copy_expr(alloc, test)?;
             Ok(Stmt::Wait {
                 at: *at,
                 test,

@@ -10,11 +10,9 @@ use Rattle.nt_lexer.specs.Bytes.{Bytes}
 use Rattle.nt_lexer.specs.Cuts.{Lexes, done, on, Stuck}
 use Rattle.nt_lexer.specs.declared.kinds.Head.{Head}
 use Rattle.nt_lexer.specs.declared.kinds.Token.{Token}
-use Rattle.nt_parse_expr.specs.Readings.{Derives, Reads, rest}
+use Rattle.nt_parse_expr.specs.Readings.{Derives, Reads, StatementDerives, ReadsStatement, rest}
 use Rattle.nt_parse_expr.specs.declared.cursor.Cursor.{Cursor}
-use Rattle.nt_parse_expr.proofs.Theorem.{one_only}
-use Rattle.nt_parse_stmt.specs.Readings.{StatementDerives, ReadsStatement}
-use Rattle.nt_parse_stmt.proofs.Theorem.{one_only as one_statement}
+use Rattle.nt_parse_expr.proofs.Exact.{one_only, one_statement}
 use Rattle.nt_texts.specs.Texts.{CutInto, ExpressionOf, StatementOf, IsExpression, IsStatement, fresh}
 
 -- the end stands in each list

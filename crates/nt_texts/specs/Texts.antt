@@ -8,8 +8,7 @@ use Rattle.nt_lexer.specs.Bytes.{Bytes}
 use Rattle.nt_lexer.specs.Cuts.{Lexes, Stuck}
 use Rattle.nt_lexer.specs.declared.kinds.Head.{Head}
 use Rattle.nt_lexer.specs.declared.kinds.Token.{Token}
-use Rattle.nt_parse_expr.specs.Readings.{Derives}
-use Rattle.nt_parse_stmt.specs.Readings.{StatementDerives}
+use Rattle.nt_parse_expr.specs.Readings.{Derives, StatementDerives}
 
 -- before a text: no time unit, and no token
 abbrev pub fresh : Head

@@ -5,8 +5,7 @@ ghost use Rattle.nt_texts.specs.Texts.{ExpressionOf, StatementOf};
 use nt_ast::{Expr, Stmt};
 use nt_diag::{Fault, Refusal, Rule};
 use nt_lexer::{Head, tokens};
-use nt_parse_expr::{Cursor, expression, start};
-use nt_parse_stmt::statement;
+use nt_parse_expr::{Cursor, expression, start, statement};
 use std::alloc::Global;
 
 /// The expression that all of a text is.

@@ -1,8 +1,0 @@
-pub mod Turns
-pub mod Firsts
-pub mod Pieces
-pub mod Complete
-pub mod Sound
-pub mod Whole
-pub mod Theorem
-pub mod Places

@@ -1,5 +1,0 @@
-pub mod Tables
-pub mod Statements
-pub mod Reader
-pub mod Readings
-pub mod Places

@@ -1,0 +1,10 @@
+pub mod Basics
+pub mod Lists
+pub mod Follows
+pub mod Begins
+pub mod Complete
+pub mod Sound
+pub mod LeftSide
+pub mod Places
+pub mod Below
+pub mod Turns
