@@ -254,6 +254,7 @@ value_has d s n of = sym (get_or-map shape_of s.nets n []) ∙ ap (λ (l : List 
 
 pub evaluates_keeps : (d : Design) (s : MachineState) (a : ℕ) (assign : Assign) (c : IsConstantDriver assign) → IsDesign d → IsPlain d → IsStateOf d s → slice_get d.assigns a ≡ Some assign → IsStateOf d (driven_plain s a (net_of assign.target) c.constant.0)
 evaluates_keeps d s a assign c is plain of here = record {
+  moment = of.moment;
   vars = of.vars;
   nets = of.nets;
   slots = map-set_same shape_of s.slots a c.constant.0 [] same ∙ of.slots;
@@ -320,6 +321,7 @@ resolved_shape d s n net order value is plain of here ordered value_is =
 
 pub resolves_keeps : (d : Design) (s : MachineState) (n : ℕ) (net : Net) (order : List ℕ) (value : Value) → IsDesign d → IsPlain d → IsStateOf d s → slice_get d.nets n ≡ Some net → is_order (length net.slots) order ≡ true → net_value d net.kind net.shape (in_order s.slots net.slots order) ≡ Some value → IsStateOf d (published_plain s n value)
 resolves_keeps d s n net order value is plain of here ordered value_is = record {
+  moment = of.moment;
   vars = of.vars;
   nets = map-set_same shape_of s.nets n value [] (resolved_shape d s n net order value is plain of here ordered value_is ∙ sym (net_shape_there d n net here) ∙ sym (value_has d s n of)) ∙ of.nets;
   slots = of.slots;

@@ -49,6 +49,7 @@ turns_give f P (Some p) y h is = (p.0, h, same_Some (f p.0) y is)
 -- ---- states with other slots and counts
 pub columns_keep : (d : Design) (s : MachineState) (slots : List Value) (evaluations resolutions : List ℕ) → IsStateOf d s → map shape_of slots ≡ map shape_of s.slots → length evaluations ≡ length s.evaluations → length resolutions ≡ length s.resolutions → IsStateOf d (record s { slots = slots; evaluations = evaluations; resolutions = resolutions })
 columns_keep d s slots evaluations resolutions of same e r = record {
+  moment = of.moment;
   vars = of.vars;
   nets = of.nets;
   slots = same ∙ of.slots;

@@ -1,8 +1,9 @@
 -- What a move keeps: the slot, or else it begins a later one; and that the state is one of its design.
-use Rattle.std.proofs.Common.{◌≡◌, ℕ, zero, suc, ◌<◌, ◌≤◌, Bool, true, false, ◌||◌, ◌==◌, if◌then◌else◌, List, [], ◌∷◌, map, length, get_or, refl, ap, sym, subst, ◌∙◌, arith, inl, inr}
+use Rattle.std.proofs.Common.{◌≡◌, ℕ, zero, suc, ◌<◌, ◌≤◌, ◌^◌, Bool, true, false, ◌||◌, ◌==◌, if◌then◌else◌, List, [], ◌∷◌, map, length, get_or, refl, ap, sym, subst, ◌∙◌, arith, inl, inr}
 use Rattle.std.specs.Prelude.{◌⊎◌, Option, Some, None, min, nat_le, slice_get}
 use Rattle.std.specs.List.{list_any}
 use Rattle.std.proofs.lemmas.Bool.{eqb-true, eq-eqb, cases_lt}
+use Rattle.std.proofs.lemmas.Bool.Decides.{nat_tests}
 use Rattle.std.proofs.lemmas.List.{length-map}
 use Rattle.std.proofs.lemmas.Option.{same_Some}
 use Rattle.nt_design.specs.declared.design.Design.{Design}
@@ -48,7 +49,7 @@ later_slot d s m is h =
 
     of_proc : (p : ℕ) → place_at s p ≡ Later m → (o : Option Proc) → slice_get d.procs p ≡ o → p < length d.procs → s.moment < m
     of_proc p there (Some proc) at inside =
-        (subst (λ (place : Place). PlaceFits s.moment (items_at s p) place) there (is.procs p proc at).place).1
+        (subst (λ (place : Place). PlaceFits s.moment (items_at s p) place) there (is.procs p proc at).place).1.0
     of_proc p there None at inside =
         absurd (none_there d.procs p inside at)
       where
@@ -163,10 +164,11 @@ arrived_fits before m items (Later at) low h = of_test (at == m) refl
     of_test false e =
         let far = low at refl in
         let differs : at ≡ m → ⊥ = λ q. true_not (sym e ∙ eq-eqb at m q) in
-        (h.0, elim (cases_lt m at) [ inl below ↦ below | inr above ↦ absurd (differs (omega (arith, far, above))) ])
+        (h.0, (elim (cases_lt m at) [ inl below ↦ below | inr above ↦ absurd (differs (omega (arith, far, above))) ], h.1.1))
 
 activate_fits : (d : Design) (s : MachineState) → IsStateOf d s → IsStateOf d (activate s)
 activate_fits d s is = record {
+  moment = is.moment;
   vars = is.vars;
   nets = is.nets;
   slots = is.slots;
@@ -183,6 +185,7 @@ activate_fits d s is = record {
 
 updates_fit : (d : Design) (s : MachineState) → IsStateOf d s → IsStateOf d (move_updates s)
 updates_fit d s is = record {
+  moment = is.moment;
   vars = is.vars;
   nets = is.nets;
   slots = is.slots;
@@ -197,8 +200,9 @@ updates_fit d s is = record {
   moved = is.nonblocking;
 }
 
-slot_fits : (d : Design) (s : MachineState) (m : ℕ) → IsStateOf d s → next_moment s.places ≡ Some m → IsStateOf d (begin_slot m s)
-slot_fits d s m is next = record {
+slot_fits : (d : Design) (s : MachineState) (m : ℕ) → m ≤ 2 ^ 48 → IsStateOf d s → next_moment s.places ≡ Some m → IsStateOf d (begin_slot m s)
+slot_fits d s m few is next = record {
+  moment = few;
   vars = is.vars;
   nets = is.nets;
   slots = is.slots;
@@ -214,15 +218,18 @@ slot_fits d s m is next = record {
 }
 
 pub move_keeps : MoveKeeps
-move_keeps until d s t design is calm h = of_inactive (has_inactive s) h
+move_keeps until d s t most design is calm h = of_inactive (has_inactive s) h
   where
-    of_limit : (m : ℕ) → next_moment s.places ≡ Some m → (may : Bool) → (if may then Some (begin_slot m s) else None) ≡ Some t → IsStateOf d t
-    of_limit m at false g = absurd (none_some t g)
-    of_limit m at true g = subst (IsStateOf d) (same_Some (begin_slot m s) t g) (slot_fits d s m is at)
+    within : (m : ℕ) → nat_le m until ≡ true → m ≤ 2 ^ 48
+    within m h = let low : m ≤ until = grind (arith, nat_tests) in omega (arith, low, most)
+
+    of_limit : (m : ℕ) → next_moment s.places ≡ Some m → (may : Bool) → nat_le m until ≡ may → (if may then Some (begin_slot m s) else None) ≡ Some t → IsStateOf d t
+    of_limit m at false may g = absurd (none_some t g)
+    of_limit m at true may g = subst (IsStateOf d) (same_Some (begin_slot m s) t g) (slot_fits d s m (within m may) is at)
 
     of_next : (o : Option ℕ) → next_moment s.places ≡ o → begin_next until s o ≡ Some t → IsStateOf d t
     of_next None at g = absurd (none_some t g)
-    of_next (Some m) at g = of_limit m at (nat_le m until) g
+    of_next (Some m) at g = of_limit m at (nat_le m until) refl g
 
     of_finish : (done : Bool) → (if done then None else begin_next until s (next_moment s.places)) ≡ Some t → IsStateOf d t
     of_finish true g = absurd (none_some t g)

@@ -1,10 +1,12 @@
 pub mod Again
 pub mod Columns
 pub mod Combs
+pub mod Delays
 pub mod Equations
 pub mod EventKeeps
 pub mod Examples
 pub mod Filling
+pub mod Followed
 pub mod InActive
 pub mod Keeping
 pub mod Marks
@@ -22,3 +24,4 @@ pub mod Unfolding
 pub mod ValueKeeps
 pub mod Waits
 pub mod WakeKeeps
+pub mod Witnesses

@@ -1,5 +1,5 @@
 -- What a step of a procedure keeps: a state of a design.
-use Rattle.std.proofs.Common.{◌≡◌, ℕ, zero, suc, ◌<◌, ◌≤◌, ◌||◌, Bool, true, false, not, ◌&&◌, ◌==◌, if◌then◌else◌, List, [], ◌∷◌, ◌++◌, map, length, get_or, refl, ap, sym, subst, ◌∙◌, arith, length-set}
+use Rattle.std.proofs.Common.{◌≡◌, ℕ, zero, suc, ◌<◌, ◌≤◌, ◌^◌, ◌||◌, Bool, true, false, not, ◌&&◌, ◌==◌, if◌then◌else◌, List, [], ◌∷◌, ◌++◌, map, length, get_or, refl, ap, sym, subst, ◌∙◌, arith, length-set}
 use Rattle.std.specs.Prelude.{All, Contains, ⊤, Option, Some, None, slice_get, slice_set, option_map, option_to_list}
 use Rattle.std.specs.List.{flat_map}
 use Rattle.std.proofs.Math.Seq.{map-set_same}
@@ -18,7 +18,7 @@ use Rattle.nt_design.specs.Fitting.{Gives, LocalsFit}
 use Rattle.nt_design.specs.Meaning.{most_turns}
 use Rattle.nt_design.specs.Parts.{Value, int_leaf, number_in, test_of, written}
 use Rattle.nt_design.specs.Reads.{act_calls, calls_of as called_by, event_trees, pick_trees, target_trees}
-use Rattle.nt_design.specs.Rules.{act_fits, bounds_fit, is_local}
+use Rattle.nt_design.specs.Rules.{act_fits, bounds_fit, is_delay, is_local}
 use Rattle.nt_design.specs.Shapes.{Scope, Shaped, is_both, is_leaf, is_shape, path_shape, target_shape, tree_shape}
 use Rattle.nt_design.specs.Statements.{count_of, is_among, path_of}
 use Rattle.nt_design.specs.Turns.{Timed, Timing, all_of, and_then, pick}
@@ -36,6 +36,7 @@ use Rattle.nt_design.proofs.CallsFrame.{in_flat}
 use Rattle.nt_design.proofs.Results.{Called, in_list, path_has, value_has}
 use Rattle.nt_design.proofs.Shaped.{gives_if, gives_pick, gives_then, is_shape_back, on_shape_back}
 use Rattle.nt_design.proofs.Writes.{Leads, written_has}
+use Rattle.nt_semantics.proofs.Delays.{delay_small}
 use Rattle.nt_semantics.proofs.EventKeeps.{outside, turns_give}
 use Rattle.nt_semantics.proofs.StartFitting.{all_inside, begins}
 use Rattle.nt_semantics.proofs.ValueKeeps.{put_keeps, put_of_fits, var_has}
@@ -68,21 +69,21 @@ DeedFits d locals deed.GoesOn items = ⊤
 DeedFits d locals (deed.Writes put) items = PutFits d put
 DeedFits d locals (deed.Schedules put) items = PutFits d put
 DeedFits d locals (deed.SetsLocal i value) items = shape_of value ≡ shape_of (get_or locals i [])
-DeedFits d locals (deed.Delays amount) items = HasWork items
+DeedFits d locals (deed.Delays amount) items = HasWork items × (amount ≤ 2 ^ 48)
 DeedFits d locals (deed.Waits kept) items = WaitsFor kept items
 DeedFits d locals (deed.Displays line) items = ⊤
 DeedFits d locals deed.Finishes items = ⊤
 
-placed_fits : (d : Design) (locals : List Value) (moment : ℕ) (done : Deed) (items : List Item) → DeedFits d locals done items → PlaceFits moment items (placed moment done items)
-placed_fits d locals moment deed.GoesOn items h = going_fits moment items
-placed_fits d locals moment (deed.Writes put) items h = going_fits moment items
-placed_fits d locals moment (deed.Schedules put) items h = going_fits moment items
-placed_fits d locals moment (deed.SetsLocal i value) items h = going_fits moment items
-placed_fits d locals moment (deed.Delays zero) items h = h
-placed_fits d locals moment (deed.Delays (suc n)) items h = (h, omega arith)
-placed_fits d locals moment (deed.Waits kept) items h = h
-placed_fits d locals moment (deed.Displays line) items h = going_fits moment items
-placed_fits d locals moment deed.Finishes items h = going_fits moment items
+placed_fits : (d : Design) (locals : List Value) (moment : ℕ) (done : Deed) (items : List Item) → moment ≤ 2 ^ 48 → DeedFits d locals done items → PlaceFits moment items (placed moment done items)
+placed_fits d locals moment deed.GoesOn items few h = going_fits moment items
+placed_fits d locals moment (deed.Writes put) items few h = going_fits moment items
+placed_fits d locals moment (deed.Schedules put) items few h = going_fits moment items
+placed_fits d locals moment (deed.SetsLocal i value) items few h = going_fits moment items
+placed_fits d locals moment (deed.Delays zero) items few h = h.0
+placed_fits d locals moment (deed.Delays (suc n)) items few h = (h.0, (omega arith, omega (arith, few, h.1)))
+placed_fits d locals moment (deed.Waits kept) items few h = h
+placed_fits d locals moment (deed.Displays line) items few h = going_fits moment items
+placed_fits d locals moment deed.Finishes items few h = going_fits moment items
 
 -- a step that a procedure may make
 record Made (d : Design) (proc : Proc) (locals : List Value) (step : Deed × List Item) : Type 0 where
@@ -305,8 +306,10 @@ module _ (d : Design) (proc : Proc) (s : MachineState) (of : IsStateOf d s) (loc
       let fits = and_parts (is_shape (slice_get proc.locals i) (int_leaf ∷ [])) (act_fits scope None body) (and_parts (bounds_fit bounds None) (is_shape (slice_get proc.locals i) (int_leaf ∷ []) && act_fits scope None body) part.fits).1 in
       each_of_made bounds i body rest (is_shape_back (slice_get proc.locals i) (int_leaf ∷ []) fits.0) (All-head (ActSound d proc) body [] part.parts) ok left
   statement_made a (Act-F.Delay amount body at) rest is h ok part left =
-      after (value_of (calls_of d) (world_of s) amount locals left) (λ v l. does (deed.Delays (count_of (number_in v))) (to_do body ++ rest) locals l)
-      (λ v l. record { sound = sound_append (sound_do (All-head (ActSound d proc) body [] part.parts)) ok; fits = begins body rest })
+      gives_then (value_of (calls_of d) (world_of s) amount locals left) (λ v l. does (deed.Delays (count_of (number_in v))) (to_do body ++ rest) locals l)
+      (λ v. count_of (number_in v) ≤ 2 ^ 48) Well
+      (delay_small (calls_of d) (world_of s) locals left scope amount (and_parts (is_delay scope amount) (act_fits scope None body) part.fits).0)
+      (λ v l small. record { sound = sound_append (sound_do (All-head (ActSound d proc) body [] part.parts)) ok; fits = (begins body rest, small) })
   statement_made a (Act-F.Event any on body at) rest is h ok part left =
       gives_then (values_of (calls_of d) (world_of s) (event_trees on) locals left) (λ vs l. does (deed.Waits vs) (Do a ∷ rest) locals l)
       (λ vs. length vs ≡ length (map (value_of (calls_of d) (world_of s)) (event_trees on))) Well
@@ -416,7 +419,7 @@ module _ (d : Design) (design : IsDesign d) (p : ℕ) (proc : Proc) (at : slice_
           let has : get_or (slice_set s.items p items) q [] ≡ items = ap (λ k. get_or (slice_set s.items p items) k []) same ∙ get_or-set_same s.items p items [] (omega (arith, low, of.items)) in
           let stands : get_or (slice_set s.places p (placed s.moment done items)) q Over ≡ placed s.moment done items = ap (λ k. get_or (slice_set s.places p (placed s.moment done items)) k Over) same ∙ get_or-set_same s.places p (placed s.moment done items) Over (omega (arith, low, of.places)) in (
             subst (λ x. Sound d x (get_or (slice_set s.items p items) q [])) one_proc (subst (Sound d proc) (sym has) made.sound),
-            subst (λ (l : List Item). PlaceFits s.moment l (get_or (slice_set s.places p (placed s.moment done items)) q Over)) (sym has) (subst (PlaceFits s.moment items) (sym stands) (placed_fits d (locals_at s p) s.moment done items made.fits)),
+            subst (λ (l : List Item). PlaceFits s.moment l (get_or (slice_set s.places p (placed s.moment done items)) q Over)) (sym has) (subst (PlaceFits s.moment items) (sym stands) (placed_fits d (locals_at s p) s.moment done items of.moment made.fits)),
           )
       of_test false is =
           let differs : q ≡ p → ⊥ = λ same. false≢true (sym is ∙ eq-eqb q p same) in
@@ -440,6 +443,7 @@ module _ (d : Design) (design : IsDesign d) (p : ℕ) (proc : Proc) (at : slice_
         finished = s.finished || finishes step.0;
       }) made.fits
       (record {
+        moment = of.moment;
         vars = of.vars;
         nets = of.nets;
         slots = of.slots;

@@ -235,6 +235,7 @@ start_proc d design p proc at =
 
 pub start_fits : StartFits
 start_fits d design = record {
+  moment = omega arith;
   vars = map_twice shape_of (λ (x : Var). x.start) d.vars ∙ map_same (λ (x : Var). shape_of x.start) (λ (x : Var). x.shape) d.vars (λ i x at. (design.vars i x at).start);
   nets = map_twice shape_of (λ (x : Net). net_start x.kind x.shape) d.nets ∙ map_same (λ (x : Net). shape_of (net_start x.kind x.shape)) (λ (x : Net). x.shape) d.nets (λ i x at. net_start_shape x.kind x.shape);
   slots = map_twice shape_of (λ (x : Assign). slot_start d x.target) d.assigns ∙ map_same (λ (x : Assign). shape_of (slot_start d x.target)) (λ (x : Assign). slot_shape d x.target) d.assigns (λ i x at. slot_at d x.target);

@@ -183,6 +183,7 @@ put_of_fits d v old path value r below h k is =
 -- ---- states with other values
 vars_keep : (d : Design) (s : MachineState) (vars : List Value) → IsStateOf d s → map shape_of vars ≡ map shape_of s.vars → IsStateOf d (record s { vars = vars })
 vars_keep d s vars of same = record {
+  moment = of.moment;
   vars = same ∙ of.vars;
   nets = of.nets;
   slots = of.slots;
@@ -199,6 +200,7 @@ vars_keep d s vars of same = record {
 
 nets_keep : (d : Design) (s : MachineState) (nets : List Value) → IsStateOf d s → map shape_of nets ≡ map shape_of s.nets → IsStateOf d (record s { nets = nets })
 nets_keep d s nets of same = record {
+  moment = of.moment;
   vars = of.vars;
   nets = same ∙ of.nets;
   slots = of.slots;
@@ -215,6 +217,7 @@ nets_keep d s nets of same = record {
 
 moved_keep : (d : Design) (s : MachineState) (puts : List Put) → IsStateOf d s → All (PutFits d) puts → IsStateOf d (record s { moved = puts })
 moved_keep d s puts of fit = record {
+  moment = of.moment;
   vars = of.vars;
   nets = of.nets;
   slots = of.slots;

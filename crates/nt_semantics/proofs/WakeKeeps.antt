@@ -526,6 +526,7 @@ proc_fits x place = record { items = x.fit; place = place; inside = x.inside; ca
 pub wake_keeps : (d : Design) → IsDesign d → (o : Object) (changed : Bool) (s : MachineState) → IsStateOf d s → IsStateOf d (wake d o changed s)
 unfolding wake
 wake_keeps d design o false s is = record {
+  moment = is.moment;
   vars = is.vars;
   nets = is.nets;
   slots = is.slots;
@@ -540,6 +541,7 @@ wake_keeps d design o false s is = record {
   moved = is.moved;
 }
 wake_keeps d design o true s is = record {
+  moment = is.moment;
   vars = is.vars;
   nets = is.nets;
   slots = is.slots;

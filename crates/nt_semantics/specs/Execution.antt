@@ -1,6 +1,6 @@
 -- Moves between regions and slots, whole executions, and the lists of entries that stand for them (IEEE 1800-2017, 4.4,
 -- 4.5).
-use Rattle.std.specs.Prelude.{◌≡◌, ℕ, ◌==◌, nat_lt, nat_le, min, Bool, true, false, not, ◌&&◌, ◌||◌, if◌then◌else◌, List, [], ◌∷◌, ◌++◌, map, get_or, replicate, Option, Some, None, option_and_then, unwrap_or, All}
+use Rattle.std.specs.Prelude.{◌≡◌, ℕ, ◌+◌, ◌≤◌, ◌==◌, nat_lt, nat_le, min, Bool, true, false, not, ◌&&◌, ◌||◌, if◌then◌else◌, List, [], ◌∷◌, ◌++◌, map, get_or, replicate, Option, Some, None, option_and_then, unwrap_or, All}
 use Rattle.std.specs.List.{flat_map, list_any}
 use Rattle.nt_design.specs.Parts.{Value}
 use Rattle.nt_design.specs.Reads.{reads_of}
@@ -11,7 +11,7 @@ use Rattle.nt_design.specs.declared.target.Target.{Target}
 use Rattle.nt_design.specs.declared.target.Target.TheVariants as target
 use Rattle.nt_semantics.specs.Same.{is_one_of}
 use Rattle.nt_semantics.specs.State.{Place, Ready, Inactive, Later, MachineState, start_state}
-use Rattle.nt_semantics.specs.Step.{step, only_if, is_pending_at, is_some_put}
+use Rattle.nt_semantics.specs.Step.{step, only_if, is_pending, is_pending_at, is_some_put, copies_of}
 use Rattle.nt_semantics.specs.declared.event.Event.{Event}
 use Rattle.nt_semantics.specs.declared.event.Event.TheVariants.{Stmt, Assign as AssignEvent, Update, Resolve}
 use Rattle.nt_semantics.specs.declared.event.Entry.{Entry}
@@ -171,3 +171,35 @@ if_some other go (Some s) = go s
 abbrev pub ended : ℕ → Design → List Event → MachineState → List Observation
 ended until d [] s = seen s
 ended until d (e ∷ es) s = seen s ++ if_some [] (ended until d es) (step d (settle until s) e)
+
+-- the slots that a later one followed in the course of these events
+abbrev pub followed : ℕ → Design → List Event → MachineState → List Observation
+followed until d [] s = []
+followed until d (e ∷ es) s = seen s ++ if_some [] (followed until d es) (step d (settle until s) e)
+
+-- the event is in Active, and an evaluation in it takes too many turns
+abbrev pub IsTooLong : Design → MachineState → Event → Type 0
+IsTooLong d s e = (is_pending d s e ≡ true) × (step d s e ≡ None)
+
+-- ---- limits (own)
+-- how many entries a slot may have at the end of a round
+abbrev pub most_entries : ℕ
+most_entries = 1000000
+
+-- how many entries the slot has in which these entries end, where there were so many before them. An entry after a slot that
+-- is over is the first of the next one
+abbrev pub entries_in_slot : ℕ → Design → ℕ → List Entry → MachineState → ℕ
+entries_in_slot until d before [] s = before
+entries_in_slot until d before (entry ∷ entries) s =
+    if_some 0 (λ t. entries_in_slot until d (if is_over s then 1 else before + 1) entries t) (run until d (copies entry) s)
+
+-- what a run meets that goes no further: the slot has so many entries, or this is too long
+pub data Limit : Type 0 where
+  Entries : (count : ℕ) → Limit
+  Turns : (entry : Entry) → Limit
+
+-- the limit is met where these entries have led to this state
+abbrev pub IsMet : ℕ → Design → List Entry → MachineState → Limit → Type 0
+IsMet until d entries s (Entries count) =
+    (count ≡ entries_in_slot until d 0 entries (start_state d)) × (most_entries ≤ count)
+IsMet until d entries s (Turns entry) = IsTooLong d (settle until s) entry.event × (entry.count ≡ copies_of (settle until s) entry.event)

@@ -1,6 +1,6 @@
 -- Rounds: the order in which a run takes events (this project's own; any order of Active events is allowed, IEEE
 -- 1800-2017, 4.7).
-use Rattle.std.specs.Prelude.{◌≡◌, ◌↔◌, ℕ, zero, suc, ◌+◌, ◌==◌, nat_lt, Bool, true, false, not, ◌&&◌, ◌||◌, if◌then◌else◌, List, [], ◌∷◌, ◌++◌, length, map, filter, get_or, is_some, Contains, Option, Some, None}
+use Rattle.std.specs.Prelude.{◌≡◌, ◌↔◌, ℕ, zero, suc, ◌+◌, ◌<◌, ◌==◌, nat_lt, Bool, true, false, not, ◌&&◌, ◌||◌, if◌then◌else◌, List, [], ◌∷◌, ◌++◌, length, map, filter, get_or, is_some, Contains, Option, Some, None}
 use Rattle.std.specs.List.{flat_map, list_any, range_with_len}
 use Rattle.std.specs.List.Sorted.{IsStrictlyIncreasing}
 use Rattle.nt_design.specs.Reads.{act_reads, act_writes, reads_of, written_vars}
@@ -81,6 +81,7 @@ pub record AreGroups (d : Design) (groups : List (List Process)) : Type 0 where
   pub none_else : (k : ℕ) (p : Process) → Contains (group_at groups k) p → Contains (processes d) p
   pub linked : (j k : ℕ) (p q : Process) → Contains (group_at groups j) p → Contains (group_at groups k) q → (j ≡ k) ↔ Linked d p q
   pub inside : (k : ℕ) → IsStrictlyIncreasing (map (number_of d) (group_at groups k))
+  pub not_empty : (group : List Process) → Contains groups group → 0 < length group
   pub in_order : IsStrictlyIncreasing (map (least_of d) groups)
 
 -- ---- ready lists
@@ -323,10 +324,10 @@ last_of_each (slot ∷ slots) = if is_listed slot slots then last_of_each slots 
 abbrev pub marked : ℕ → List Mark → List ℕ
 marked n marks = map (λ (m : Mark). m.slot) (filter (λ (m : Mark). m.net == n) marks)
 
--- arrival order: the slots without a mark in this round by number, and then the marked ones by the last rank of each
-abbrev pub arrival : Design → List Mark → ℕ → List ℕ
-arrival d marks n =
-    filter (λ slot. not (is_listed slot (marked n marks))) (declared d n) ++ last_of_each (marked n marks)
+-- arrival order: the slots without a mark in this round by number, and then the marked ones by the last rank of each; the
+-- marked slots are told in the order of their ranks
+abbrev pub arrival : Design → ℕ → List ℕ → List ℕ
+arrival d n slots = filter (λ slot. not (is_listed slot slots)) (declared d n) ++ last_of_each slots
 
 -- the third list holds the items of the first two, each list's in their own order
 pub data Mixed {E : Type 0} : List E → List E → List E → Type 0 where
@@ -339,10 +340,15 @@ abbrev pub Interleaved : {E : Type 0} → List (List E) → List E → Type 0
 Interleaved [] gs = gs ≡ []
 Interleaved {E} (es ∷ ess) gs = (fs : List E) × (Interleaved ess fs × Mixed es fs gs)
 
--- these orders are of some arrival of the marks that a round's groups made side by side
+-- this order of a net is of some arrival of the marks on it that these lists hold, made side by side
+abbrev pub ArrivesAs : Design → List (List Mark) → ℕ → List ℕ → Type 0
+ArrivesAs d marks n order =
+    (slots : List ℕ) × (Interleaved (map (marked n) marks) slots × (order ≡ arrival d n slots))
+
+-- these orders are of arrivals of the marks that a round's groups made, net by net: of marks on two nets no one says which
+-- came first
 abbrev pub IsArrival : Design → RoundState → (ℕ → List ℕ) → Type 0
-IsArrival d r orders =
-    (marks : List Mark) × (Interleaved (evaluate d r.state r.ready r.puts).marks marks × ((n : ℕ) → orders n ≡ arrival d marks n))
+IsArrival d r orders = (n : ℕ) → ArrivesAs d (evaluate d r.state r.ready r.puts).marks n (orders n)
 
 -- ---- between rounds
 -- the procedures that a move has brought back, in the order in which they were put away

@@ -1,5 +1,5 @@
 -- Which states are of a design: what each step and each move keeps.
-use Rattle.std.specs.Prelude.{◌≡◌, ⊤, ℕ, zero, suc, ◌+◌, ◌≤◌, ◌<◌, true, List, [], ◌∷◌, ◌++◌, length, map, All, Contains, Some, None, slice_get}
+use Rattle.std.specs.Prelude.{◌≡◌, ⊤, ℕ, zero, suc, ◌+◌, ◌≤◌, ◌<◌, ◌^◌, true, List, [], ◌∷◌, ◌++◌, length, map, All, Contains, Some, None, slice_get}
 use Rattle.std.specs.List.{flat_map}
 use Rattle.nt_value.specs.Values.{shape_of}
 use Rattle.nt_value.specs.declared.leaf.Leaf.{Leaf}
@@ -99,12 +99,12 @@ HasWork [] = ⊥
 HasWork (Awaiting reads body ∷ rest) = ⊥
 HasWork (_ ∷ rest) = ⊤
 
--- later moments are after this one
+-- later moments are after this one, and at most 2^49, since a delay is at most 2^48 (own)
 abbrev pub PlaceFits : ℕ → List Item → Place → Type 0
 PlaceFits moment items Unbegun = HasWork items
 PlaceFits moment items Ready = HasWork items
 PlaceFits moment items Inactive = HasWork items
-PlaceFits moment items (Later at) = HasWork items × (moment < at)
+PlaceFits moment items (Later at) = HasWork items × ((moment < at) × (at ≤ 2 ^ 49))
 PlaceFits moment items (Waits kept) = WaitsFor kept items
 PlaceFits moment items Over = items ≡ []
 
@@ -122,8 +122,10 @@ slot_shape d (target.Slot n slot low width) = net_shape d n
 slot_shape d (target.Var v path) = []
 slot_shape d (target.Local i path) = []
 
--- a state of this design: values of the right leaves, an item for each in each column, and procedures and updates that fit
+-- a state of this design: a moment up to the greatest time limit (own), values of the right leaves, an item for each in each
+-- column, and procedures and updates that fit
 pub record IsStateOf (d : Design) (s : MachineState) : Type 0 where
+  pub moment : s.moment ≤ 2 ^ 48
   pub vars : map shape_of s.vars ≡ var_shapes d
   pub nets : map shape_of s.nets ≡ net_shapes d
   pub slots : map shape_of s.slots ≡ map (λ (assign : Assign). slot_shape d assign.target) d.assigns

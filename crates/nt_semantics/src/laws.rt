@@ -1,5 +1,5 @@
 // Laws of the definitions in specs/, each proved of every design and state.
-ghost use Rattle.nt_semantics.specs.Laws.{ExecutionFits, OrdersArePermutations, OnlyPending, AgainChangesNothing, RoundLeads, MoveFills, MoveKeeps, MoveStays, StartFits, StepKeeps};
+ghost use Rattle.nt_semantics.specs.Laws.{ExecutionFits, OrdersArePermutations, OnlyPending, AgainChangesNothing, RoundLeads, MoveFills, MoveKeeps, MoveStays, StartFits, StepKeeps, EndedIsFollowed, WitnessIsOne};
 
 /// The orders that a resolution of n slots may name are the permutations of the numbers below n (4.7).
 pub fn orders_are_permutations()
@@ -32,7 +32,7 @@ pub fn move_stays()
     ensures { MoveStays }
 {}
 
-/// A move keeps a state of its design.
+/// A move up to a time limit of at most 2^48 keeps a state of its design.
 pub fn move_keeps()
     ensures { MoveKeeps }
 {}
@@ -47,7 +47,17 @@ pub fn step_keeps()
     ensures { StepKeeps }
 {}
 
-/// An execution ends in a state of its design.
+/// An execution up to a time limit of at most 2^48 ends in a state of its design.
 pub fn execution_fits()
     ensures { ExecutionFits }
+{}
+
+/// The slots that have ended are those that a later one followed, and that of the last state where it is over.
+pub fn ended_is_followed()
+    ensures { EndedIsFollowed }
+{}
+
+/// A witness is the text of one list of entries.
+pub fn witness_is_one()
+    ensures { WitnessIsOne }
 {}

@@ -10,7 +10,7 @@ mod moved;
 pub use deed::{Deed, Put};
 pub use event::{Entry, Event, Order};
 pub use laws::{
-    again_changes_nothing, execution_fits, move_fills, move_keeps, move_stays, only_pending,
-    orders_are_permutations, round_leads, start_fits, step_keeps,
+    again_changes_nothing, ended_is_followed, execution_fits, move_fills, move_keeps, move_stays,
+    only_pending, orders_are_permutations, round_leads, start_fits, step_keeps, witness_is_one,
 };
 pub use moved::Moved;
