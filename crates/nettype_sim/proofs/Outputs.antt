@@ -145,8 +145,8 @@ cut_in_entries until d entries s t a b c execution written head (n, gained) =
 module _ (until : ℕ) (d : Design) (entries : List Entry) (s : MachineState) (execution : Execution until d entries s) (written : All IsWritten entries) (plain : IsPlain d) (still : IsPlainState s) (complete : IsComplete until s) where
   slot_over : seen s ≡ observation_of s ∷ []
   slot_over =
-      ap (λ b. if not b && (not (list_any is_inactive s.places) && not (is_some_put s.nonblocking)) then observation_of s ∷ [] else []) (ap is_active (sym (settled until s still)) ∙ complete)
-      ∙ ap (λ places. if not (list_any is_inactive places) && not (is_some_put s.nonblocking) then observation_of s ∷ [] else []) still.places
+      ap (λ b. if not b && (not (list_any is_inactive s.standings) && not (is_some_put s.nonblocking)) then observation_of s ∷ [] else []) (ap is_active (sym (settled until s still)) ∙ complete)
+      ∙ ap (λ places. if not (list_any is_inactive places) && not (is_some_put s.nonblocking) then observation_of s ∷ [] else []) still.standings
       ∙ ap (λ puts. if not (is_some_put puts) then observation_of s ∷ [] else []) still.nonblocking
 
   ended_there : ended until d (expansion entries) (start_state d) ≡ observation_of s ∷ []

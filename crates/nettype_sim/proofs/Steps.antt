@@ -12,7 +12,7 @@ use Rattle.nt_design.specs.WellFormed.{IsDesign}
 use Rattle.nt_design.specs.declared.design.Design.{Design}
 use Rattle.nt_machine.specs.Plain.{IsPlainState}
 use Rattle.nt_semantics.specs.Same.{is_same}
-use Rattle.nt_semantics.specs.State.{MachineState, start_state, value_at, place_at, count_at, fewer, more}
+use Rattle.nt_semantics.specs.State.{MachineState, start_state, value_at, standing_at, count_at, fewer, more}
 use Rattle.nt_semantics.specs.StateFits.{IsStateOf, AtMost}
 use Rattle.nt_semantics.specs.Step.{step, is_pending_at, is_some_put, all_below}
 use Rattle.nt_semantics.specs.Texts.{IsWritten}
@@ -306,7 +306,7 @@ pub nothing_left : (d : Design) (entries : List Entry) (s : MachineState) → Re
 unfolding is_active
 nothing_left d entries s so_far until =
     ap is_active (settled until s so_far.leads.plain)
-    ∙ ap (λ places. list_any (is_pending_at s) places || (list_any (nat_lt 0) s.evaluations || (list_any (nat_lt 0) s.resolutions || is_some_put s.moved))) so_far.leads.plain.places
+    ∙ ap (λ places. list_any (is_pending_at s) places || (list_any (nat_lt 0) s.evaluations || (list_any (nat_lt 0) s.resolutions || is_some_put s.moved))) so_far.leads.plain.standings
     ∙ ap (λ b. b || (list_any (nat_lt 0) s.resolutions || is_some_put s.moved)) (none_left s.evaluations so_far.evaluated)
     ∙ ap (λ b. b || is_some_put s.moved) (none_left s.resolutions none_resolves)
     ∙ ap is_some_put so_far.leads.plain.moved

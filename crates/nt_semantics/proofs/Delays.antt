@@ -1,6 +1,6 @@
 -- The delay of a statement that fits is at most 2^48.
-use Rattle.std.proofs.Common.{◌≡◌, ℕ, ◌≤◌, ◌^◌, true, refl, ap, sym, subst, ◌∙◌, List}
-use Rattle.std.specs.Prelude.{Option, Some, None, nat_le, ℤ, pos, negsuc}
+use Rattle.std.proofs.Common.{◌≡◌, ℕ, ◌≤◌, ◌^◌, true, sym, subst, List}
+use Rattle.std.specs.Prelude.{Option, Some, None, ℤ, pos, negsuc}
 use Rattle.std.proofs.lemmas.Bool.{and_parts, false≢true}
 use Rattle.std.proofs.lemmas.Bool.Decides.{nat_tests}
 use Rattle.std.proofs.Common.{arith}

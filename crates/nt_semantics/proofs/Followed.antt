@@ -1,10 +1,10 @@
 -- The slots that ended are those that a later one followed, and that of the last state where it is over.
-use Rattle.std.proofs.Common.{◌≡◌, ℕ, List, [], ◌∷◌, ◌++◌, refl, ap, sym, ◌∙◌}
+use Rattle.std.proofs.Common.{◌≡◌, ℕ, List, [], ◌∷◌, ◌++◌, ap, sym, ◌∙◌}
 use Rattle.std.specs.Prelude.{Option, Some, None, option_and_then}
 use Rattle.std.proofs.lemmas.Option.{none-some, same_Some}
 use Rattle.std.proofs.lemmas.List.{append_assoc}
 use Rattle.nt_design.specs.declared.design.Design.{Design}
-use Rattle.nt_semantics.specs.Execution.{Observation, ended, followed, if_some, run, seen, settle}
+use Rattle.nt_semantics.specs.Execution.{ended, followed, if_some, run, seen, settle}
 use Rattle.nt_semantics.specs.State.{MachineState}
 use Rattle.nt_semantics.specs.Step.{step}
 use Rattle.nt_semantics.specs.declared.event.Event.{Event}

@@ -11,7 +11,7 @@ use Rattle.nt_semantics.proofs.StartFitting.{start_fits}
 use Rattle.nt_semantics.proofs.ValueKeeps.{update_keeps}
 use Rattle.nt_semantics.specs.Execution.{expansion, is_active, move, run, settle}
 use Rattle.nt_semantics.specs.Laws.{ExecutionFits, StepKeeps}
-use Rattle.nt_semantics.specs.State.{MachineState, count_at, items_at, place_at, start_state}
+use Rattle.nt_semantics.specs.State.{MachineState, count_at, work_at, standing_at, start_state}
 use Rattle.nt_semantics.specs.StateFits.{IsStateOf}
 use Rattle.nt_semantics.specs.Step.{assign_step, is_pending_at, only_if, proc_step, resolve_step, step}
 use Rattle.nt_semantics.specs.declared.event.Event.{Event}
@@ -29,7 +29,7 @@ from_there f (Some x) y h = (x, refl, h)
 pub step_keeps : StepKeeps
 unfolding step
 step_keeps d s t (Stmt p) design of h =
-    proc_keeps d design p s t of (there (is_pending_at s (place_at s p)) (proc_step d p s (items_at s p)) t h)
+    proc_keeps d design p s t of (there (is_pending_at s (standing_at s p)) (proc_step d p s (work_at s p)) t h)
 step_keeps d s t (AssignEvent a) design of h =
     let x = from_there (assign_step d a s) (slice_get d.assigns a) t (there (nat_lt 0 (count_at s.evaluations a)) (option_and_then (assign_step d a s) (slice_get d.assigns a)) t h) in
     assign_keeps d design a x.0 s t x.1 of x.2

@@ -187,13 +187,13 @@ vars_keep d s vars of same = record {
   vars = same ∙ of.vars;
   nets = of.nets;
   slots = of.slots;
-  places = of.places;
-  items = of.items;
+  standings = of.standings;
+  work = of.work;
   locals = of.locals;
   fresh = of.fresh;
   evaluations = of.evaluations;
   resolutions = of.resolutions;
-  procs = λ p proc at. let x = of.procs p proc at in record { items = x.items; place = x.place; inside = x.inside; called = x.called };
+  procs = λ p proc at. let x = of.procs p proc at in record { work = x.work; standing = x.standing };
   nonblocking = of.nonblocking;
   moved = of.moved;
 }
@@ -204,13 +204,13 @@ nets_keep d s nets of same = record {
   vars = of.vars;
   nets = same ∙ of.nets;
   slots = of.slots;
-  places = of.places;
-  items = of.items;
+  standings = of.standings;
+  work = of.work;
   locals = of.locals;
   fresh = of.fresh;
   evaluations = of.evaluations;
   resolutions = of.resolutions;
-  procs = λ p proc at. let x = of.procs p proc at in record { items = x.items; place = x.place; inside = x.inside; called = x.called };
+  procs = λ p proc at. let x = of.procs p proc at in record { work = x.work; standing = x.standing };
   nonblocking = of.nonblocking;
   moved = of.moved;
 }
@@ -221,13 +221,13 @@ moved_keep d s puts of fit = record {
   vars = of.vars;
   nets = of.nets;
   slots = of.slots;
-  places = of.places;
-  items = of.items;
+  standings = of.standings;
+  work = of.work;
   locals = of.locals;
   fresh = of.fresh;
   evaluations = of.evaluations;
   resolutions = of.resolutions;
-  procs = λ p proc at. let x = of.procs p proc at in record { items = x.items; place = x.place; inside = x.inside; called = x.called };
+  procs = λ p proc at. let x = of.procs p proc at in record { work = x.work; standing = x.standing };
   nonblocking = of.nonblocking;
   moved = fit;
 }

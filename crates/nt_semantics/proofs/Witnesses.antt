@@ -1,13 +1,13 @@
 -- A witness is the text of one list of entries: a number ends where no digit stands, and the first byte of a line tells its
 -- event.
-use Rattle.std.proofs.Common.{◌≡◌, ℕ, ◌<◌, ◌≤◌, ◌^◌, List, [], ◌∷◌, ◌++◌, get_or, drop, decimal, codes, refl, ap, sym, subst, ◌∙◌, arith, append_assoc}
+use Rattle.std.proofs.Common.{◌≡◌, ℕ, ◌<◌, ◌^◌, List, [], ◌∷◌, ◌++◌, get_or, drop, decimal, codes, refl, ap, sym, ◌∙◌, arith, append_assoc}
 use Rattle.std.specs.Prelude.{All}
 use Rattle.std.specs.Str.Parse.{AllDigits}
 use Rattle.std.proofs.lemmas.Fmt.{decimal_injective, decimal_is_IsNumeral}
 use Rattle.std.proofs.lemmas.List.Elements.{All-head, All-tail}
 use Rattle.std.proofs.lemmas.Str.Parse.{digit_from_value}
 use Rattle.nt_semantics.specs.Laws.{WitnessIsOne}
-use Rattle.nt_semantics.specs.Texts.{IsCount, IsWritten, IsWrittenAs, order_text, event_line, entry_line, entry_lines, witness_head, witness_end}
+use Rattle.nt_semantics.specs.Texts.{IsWritten, IsWrittenAs, order_text, event_line, entry_line, entry_lines, witness_head, witness_end}
 use Rattle.nt_semantics.specs.declared.event.Entry.{Entry}
 use Rattle.nt_semantics.specs.declared.event.Event.{Event}
 use Rattle.nt_semantics.specs.declared.event.Event.TheVariants.{Stmt, Assign as AssignEvent, Update, Resolve}
