@@ -4,13 +4,13 @@ use Rattle.std.specs.List.{list_any}
 use Rattle.std.proofs.lemmas.Bool.{false≢true}
 use Rattle.std.proofs.lemmas.Option.{same_Some, none-some}
 use Rattle.nt_design.specs.declared.design.Design.{Design}
-use Rattle.nt_machine.specs.State.{MachineState, count_at}
-use Rattle.nt_machine.specs.Step.{step, is_pending_at, is_some_put}
-use Rattle.nt_machine.specs.Execution.{settle, move, is_active, is_inactive, has_inactive, activate, move_updates, begin_next, next_moment, run, ended, seen, if_some, observation_of}
+use Rattle.nt_semantics.specs.State.{MachineState, count_at}
+use Rattle.nt_semantics.specs.Step.{step, is_pending_at, is_some_put}
+use Rattle.nt_semantics.specs.Execution.{settle, move, is_active, is_inactive, has_inactive, activate, move_updates, begin_next, next_moment, run, ended, seen, if_some, observation_of}
 use Rattle.nt_design.specs.Plain.{IsPlain}
 use Rattle.nt_machine.specs.Plain.{IsPlainState}
-use Rattle.nt_machine.specs.declared.event.Event.{Event}
-use Rattle.nt_machine.specs.declared.event.Event.TheVariants.{Stmt, Assign as AssignEvent, Update, Resolve}
+use Rattle.nt_semantics.specs.declared.event.Event.{Event}
+use Rattle.nt_semantics.specs.declared.event.Event.TheVariants.{Stmt, Assign as AssignEvent, Update, Resolve}
 use Rattle.nt_machine.proofs.Steps.{evaluates, resolves, evaluated_to, resolved_to, driven_still, published_still, no_statement, no_update}
 
 if_same : {A : Type 0} (b : Bool) (x : A) → (if b then x else x) ≡ x
@@ -19,7 +19,7 @@ if_same false x = refl
 
 pub no_move : (until : ℕ) (s : MachineState) → IsPlainState s → move until s ≡ None
 no_move until s still =
-    ap (λ p. if list_any is_inactive p then Some (activate s) else (if is_some_put s.nonblocking then Some (move_updates s) else (if s.finished then None else begin_next until s (next_moment p)))) still.places
+    ap (λ p. if list_any is_inactive p then Some (activate s) else (if is_some_put s.nonblocking then Some (move_updates s) else (if s.finished then None else begin_next until s (next_moment p)))) still.standings
     ∙ ap (λ puts. if is_some_put puts then Some (move_updates s) else (if s.finished then None else begin_next until s None)) still.nonblocking
     ∙ ap (λ b. if b then None else begin_next until s None) still.finished
 
@@ -56,11 +56,11 @@ unfolding is_active
 acts d s t (Stmt p) still h = absurd (none-some t (sym (no_statement d s p still) ∙ h))
 acts d s t (AssignEvent a) still h =
     let x = evaluates d s a (ap (λ (o : Option MachineState). is_some o) h) in
-    or_right (list_any (is_pending_at s) s.places) _ (or_left (list_any (nat_lt 0) s.evaluations) _ (any_count s.evaluations a x.active))
+    or_right (list_any (is_pending_at s) s.standings) _ (or_left (list_any (nat_lt 0) s.evaluations) _ (any_count s.evaluations a x.active))
 acts d s t Update still h = absurd (none-some t (sym (no_update d s still) ∙ h))
 acts d s t (Resolve n order) still h =
     let x = resolves d s n order (ap (λ (o : Option MachineState). is_some o) h) in
-    or_right (list_any (is_pending_at s) s.places) _ (or_right (list_any (nat_lt 0) s.evaluations) _ (or_left (list_any (nat_lt 0) s.resolutions) _ (any_count s.resolutions n x.active)))
+    or_right (list_any (is_pending_at s) s.standings) _ (or_right (list_any (nat_lt 0) s.evaluations) _ (or_left (list_any (nat_lt 0) s.resolutions) _ (any_count s.resolutions n x.active)))
 
 -- an active slot has not ended
 unseen : (s : MachineState) → is_active s ≡ true → seen s ≡ []

@@ -2,13 +2,13 @@
 -- in which nothing is anywhere but in Active, and there only evaluations and resolutions.
 use Rattle.std.specs.Prelude.{◌≡◌, ℕ, false, if◌then◌else◌, [], slice_set}
 use Rattle.nt_design.specs.Parts.{Value}
-use Rattle.nt_machine.specs.Same.{is_same}
-use Rattle.nt_machine.specs.State.{MachineState, value_at, more, fewer}
+use Rattle.nt_semantics.specs.Same.{is_same}
+use Rattle.nt_semantics.specs.State.{MachineState, value_at, more, fewer}
 
 -- no procedure waits or is ready, and nothing is put into another region
 pub record IsPlainState (s : MachineState) : Type 0 where
-  pub places : s.places ≡ []
-  pub items : s.items ≡ []
+  pub standings : s.standings ≡ []
+  pub work : s.work ≡ []
   pub nonblocking : s.nonblocking ≡ []
   pub moved : s.moved ≡ []
   pub shown : s.shown ≡ []

@@ -1,0 +1,15 @@
+pub mod Execution
+pub mod Groups
+pub mod Laws
+pub mod Lines
+pub mod Puts
+pub mod ReadyLists
+pub mod Rounds
+pub mod Same
+pub mod Slots
+pub mod State
+pub mod StateFits
+pub mod Statements
+pub mod Step
+pub mod Texts
+pub mod Wake

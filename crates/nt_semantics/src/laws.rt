@@ -1,0 +1,93 @@
+// Laws of the definitions in specs/, each proved of every design and state.
+ghost use Rattle.nt_semantics.specs.Laws.{ExecutionFits, OrdersArePermutations, OnlyPending, AgainChangesNothing, RoundLeads, MoveFills, MoveKeeps, MoveStays, StartFits, StepKeeps, EndedIsFollowed, WitnessIsOne, OthersWakeTheWaiting, PhaseKeepsLists, RoundKeepsLists, RoundShows, OnlyActive, SlotsBeginSmall};
+
+/// The orders that a resolution of n slots may name are the permutations of the numbers below n (4.7).
+pub fn orders_are_permutations()
+    ensures { OrdersArePermutations }
+{}
+
+/// An event that isn't pending has no step.
+pub fn only_pending()
+    ensures { OnlyPending }
+{}
+
+/// The entries of a round are steps from its start to its end.
+pub fn round_leads()
+    ensures { RoundLeads }
+{}
+
+/// One move makes Active not empty.
+pub fn move_fills()
+    ensures { MoveFills }
+{}
+
+/// A further copy of an evaluation or a resolution that was just performed is allowed, and changes nothing but the number of
+/// its copies. An assignment to a variable that it reads is left out.
+pub fn again_changes_nothing()
+    ensures { AgainChangesNothing }
+{}
+
+/// A move of a state with nothing in Active stays in the slot, or begins a later one where the slot is over.
+pub fn move_stays()
+    ensures { MoveStays }
+{}
+
+/// A move up to a time limit of at most 2^48 keeps a state of its design.
+pub fn move_keeps()
+    ensures { MoveKeeps }
+{}
+
+/// The start state is one of its design.
+pub fn start_fits()
+    ensures { StartFits }
+{}
+
+/// A step keeps a state of its design.
+pub fn step_keeps()
+    ensures { StepKeeps }
+{}
+
+/// An execution up to a time limit of at most 2^48 ends in a state of its design.
+pub fn execution_fits()
+    ensures { ExecutionFits }
+{}
+
+/// The slots that have ended are those that a later one followed, and that of the last state where it is over.
+pub fn ended_is_followed()
+    ensures { EndedIsFollowed }
+{}
+
+/// A witness is the text of one list of entries.
+pub fn witness_is_one()
+    ensures { WitnessIsOne }
+{}
+
+/// An event of another makes ready only a procedure that waited.
+pub fn others_wake_the_waiting()
+    ensures { OthersWakeTheWaiting }
+{}
+
+/// Phase Evaluate of one group leaves on the list each process that is ready.
+pub fn phase_keeps_lists()
+    ensures { PhaseKeepsLists }
+{}
+
+/// A round with one group keeps its ready list right.
+pub fn round_keeps_lists()
+    ensures { RoundKeepsLists }
+{}
+
+/// A round of a state with something in Active has an entry, or an event that is too long.
+pub fn round_shows()
+    ensures { RoundShows }
+{}
+
+/// Only a state with something in Active has a step.
+pub fn only_active()
+    ensures { OnlyActive }
+{}
+
+/// A slot that begins is at most at the time limit, with at most one copy of each event.
+pub fn slots_begin_small()
+    ensures { SlotsBeginSmall }
+{}
