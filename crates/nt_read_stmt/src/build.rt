@@ -1,12 +1,28 @@
 // Nodes of statements.
 ghost use Rattle.std.specs.Prelude.{◌≡◌, IfOk, Some};
+ghost use Rattle.nt_ast.specs.declared.expr.Expr.TheVariants as e;
 ghost use Rattle.nt_ast.specs.declared.stmt.Stmt.TheVariants as s;
 ghost use Rattle.nt_read_stmt.specs.Reader as spec;
 
-use nt_ast::{Expr, Stmt};
-use nt_value::Place;
+use nt_ast::{Expr, Stmt, copy_expr};
+use nt_read_expr::binary_tree;
+use nt_value::{Binary, Place};
 use sqlite_items::{Boxed, Items};
 use std::alloc::{AllocError, Global};
+
+/// The value of a compound assignment: the left side and the right one, joined by the operator (IEEE 1800-2017, 11.4.1).
+pub(crate) fn compound_tree(
+    alloc: Global,
+    at: Place,
+    op: Binary,
+    left: &Expr,
+    right: Boxed<Expr>,
+) -> Result<Boxed<Expr>, AllocError>
+    ensures { IfOk result (λ x. x ≡ e.Binary at op left.now right) }
+{
+    let left = Boxed::new(alloc, copy_expr(alloc, left)?)?;
+    binary_tree(alloc, at, op, left, right)
+}
 
 /// An arm of a case statement: the values that it is for, and its statement.
 pub(crate) type Arm = (Items<Expr>, Stmt);

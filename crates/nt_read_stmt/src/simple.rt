@@ -4,12 +4,11 @@ ghost use Rattle.nt_ast.specs.declared.expr.Expr.TheVariants as e;
 ghost use Rattle.nt_read_stmt.specs.Reader as spec;
 ghost use Rattle.nt_read_expr.specs.Gives.{Gives};
 
+use crate::build::compound_tree;
 use crate::front::{Task, compound_of, one, past_number, step_of, task_of, text_first};
-use nt_ast::{Expr, Path, Stmt, copy_expr};
+use nt_ast::{Expr, Path, Stmt};
 use nt_lexer::{Mark, Token, TokenKind, Word};
-use nt_read_expr::{
-    Stop, binary_tree, expect, expression_in, is_at, others, reference, selects, several,
-};
+use nt_read_expr::{Stop, expect, expression_in, is_at, others, reference, selects, several};
 use nt_value::{Binary, Name, Place, Text};
 use sqlite_items::{Boxed, Items};
 use std::alloc::{AllocError, Global};
@@ -47,8 +46,7 @@ fn compound<'a>(
     };
     let rest = expect(Mark::Assign, tokens)?;
     let (right, rest) = expression_in(alloc, limit, depth, rest)?;
-    let left = Boxed::new(alloc, copy_expr(alloc, left)?)?;
-    Ok((binary_tree(alloc, at, op, left, right)?, rest))
+    Ok((compound_tree(alloc, at, op, left, right)?, rest))
 }
 
 #[tactic(auto, unfolding(crate::specs::Reader::stepped))]
@@ -67,7 +65,6 @@ fn stepped<'a>(
     let Some(op) = step_of(mark) else {
         return compound(alloc, limit, depth, at, left, compound_of(mark), tokens);
     };
-    let left = Boxed::new(alloc, copy_expr(alloc, left)?)?;
     let right = Boxed::new(
         alloc,
         Expr::Literal {
@@ -75,7 +72,7 @@ fn stepped<'a>(
             value: one(),
         },
     )?;
-    Ok((binary_tree(alloc, at, op, left, right)?, tokens))
+    Ok((compound_tree(alloc, at, op, left, right)?, tokens))
 }
 
 /// What the left side, which stands at a place, gets.
