@@ -1,8 +1,9 @@
 pub mod Acts
-pub mod CallsFrame
+pub mod Crosses
 pub mod Does
 pub mod Examples
 pub mod Constants
+pub mod Filled
 pub mod Frame
 pub mod Inside
 pub mod Results

@@ -7,8 +7,9 @@ use Rattle.std.proofs.Math.Nat.{div-le_self}
 use Rattle.std.specs.List.{take-map, drop-map}
 use Rattle.nt_value.specs.Digits.{LeafValue}
 use Rattle.nt_value.specs.Operators.{unsigned_leaf}
-use Rattle.nt_value.specs.Values.{shape_of}
+use Rattle.nt_value.specs.Values.{IsValueOf, shape_of}
 use Rattle.nt_value.specs.declared.leaf.Leaf.{Leaf}
+use Rattle.nt_design.proofs.Filled.{written_filled}
 use Rattle.nt_design.proofs.Frame.{two}
 use Rattle.nt_design.proofs.Shaped.{InBounds, append_has, each_has, item_has, leaves_has, one_of_repeated, only_leaf, repeated, shape_back, where_so_back}
 use Rattle.nt_design.specs.Parts.{Value, leaves_at, leaves_each, with_leaves, Step, IntoLeaves, IntoItem, IntoPart, part_by, with_part_by, written}
@@ -87,3 +88,10 @@ written_has [] s r leads new value h k = k ∙ sym leads
 written_has (step ∷ path) s r leads new value h k =
     with_part_has step s leads.0 leads.1 (written path new (part_by step value)) value h
     (written_has path leads.0 r leads.2 new (part_by step value) (part_has step s leads.0 leads.1 value h) k)
+
+-- a value of a shape stays one after a write through a path
+pub written_is : (path : List Step) (s r : List Leaf) → Leads path s r → (new value : Value) → IsValueOf s value → IsValueOf r new → IsValueOf s (written path new value)
+written_is path s r leads new value h k = record {
+  leaves = written_has path s r leads new value h.leaves k.leaves;
+  filled = written_filled path new value k.filled h.filled;
+}
