@@ -9,9 +9,9 @@ use Rattle.nt_value.specs.Values.{AreValuesOf, IsValueOf, shape_of}
 use Rattle.nt_value.specs.declared.leaf.Leaf.{Leaf}
 use Rattle.nt_design.proofs.Filled.{Filled, all_at, int_filled, none_filled}
 use Rattle.nt_design.proofs.Shaped.{false_is, gives_if, gives_one, gives_pick, gives_then, is_shape_back, nothing_there, on_leaf_back, on_shape_back, position_in, shaped, some_back, where_so_back}
-use Rattle.nt_design.proofs.Writes.{Into, Leads, written_is}
+use Rattle.nt_design.proofs.Writes.{written_is}
 use Rattle.nt_design.specs.Expressions.{World, Calls, value_of, values_of}
-use Rattle.nt_design.specs.Fitting.{Gives, LocalsFit, HasShapes}
+use Rattle.nt_design.specs.Fitting.{Gives, HasShapes, Into, Leads, LocalsFit}
 use Rattle.nt_design.specs.Parts.{Value, number_in, test_of, position_of, IntoItem, IntoPart, written, int_leaf, int_value, leaves_at}
 use Rattle.nt_design.specs.Rules.{act_fits, arm_fits, bounds_fit, fits_step, return_fits}
 use Rattle.nt_design.specs.Shapes.{Scope, Shaped, tree_shape, target_shape, path_shape, pick_shape, item_shape, part_shape, on_leaf, on_shape, where_so, is_both, is_shape, is_leaf, is_width}

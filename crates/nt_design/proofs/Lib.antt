@@ -6,6 +6,8 @@ pub mod Constants
 pub mod Filled
 pub mod Frame
 pub mod Inside
+pub mod Overlay
+pub mod Puts
 pub mod Results
 pub mod Shaped
 pub mod Values

@@ -12,9 +12,8 @@ use Rattle.nt_design.proofs.Does.{Kept, Named, all_done, gives_spend, locals_fit
 use Rattle.nt_design.proofs.Filled.{Filled, all_at, all_none, defaults_filled, none_filled}
 use Rattle.nt_design.proofs.Frame.{two}
 use Rattle.nt_design.proofs.Shaped.{default_has, false_is, gives_then, not_back, nothing_there, shaped, some_back, where_so_back}
-use Rattle.nt_design.proofs.Writes.{Leads}
 use Rattle.nt_design.specs.Expressions.{World, Calls, object_in, value_of}
-use Rattle.nt_design.specs.Fitting.{Gives, HasShapes, LocalsFit, Returns}
+use Rattle.nt_design.specs.Fitting.{Gives, HasShapes, Leads, LocalsFit, Returns}
 use Rattle.nt_design.specs.Meaning.{calls_to, entry_of, meaning, most_turns, name_local, name_of, own_args, own_world, result_of, run, world_of}
 use Rattle.nt_design.specs.Parts.{Value, Step}
 use Rattle.nt_design.specs.Shapes.{Scope, Signature, object_shape, path_shape, signature_at, tree_shape}

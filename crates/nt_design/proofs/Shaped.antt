@@ -20,7 +20,7 @@ use Rattle.nt_value.specs.declared.operator.Unary.TheVariants as unary
 use Rattle.nt_design.proofs.Filled.{Filled, all_none, concatenated_filled, gathered_filled, int_filled, item_filled, leaves_filled, none_filled, one_all, only_filled, part_filled, time_filled}
 use Rattle.nt_design.proofs.Frame.{two, three}
 use Rattle.nt_design.specs.Expressions.{World, Calls, tree_step, value_of, is_decided}
-use Rattle.nt_design.specs.Fitting.{Gives, LocalsFit, HasShapes}
+use Rattle.nt_design.specs.Fitting.{Gives, HasShapes, InBounds, LocalsFit}
 use Rattle.nt_design.specs.Parts.{Value, only, one, merged, concatenated, gathered, leaves_at, item_at, element_at, part_at, leaves_each, position_of, number_in, test_of, int_leaf, time_leaf}
 use Rattle.nt_design.specs.Shapes.{Shaped, Scope, Signature, signature_at, on_shape, on_leaf, where_so, is_same_shape, is_same_leaf, concat_leaf, all_leaves, unary_leaf, binary_leaf, are_operand_leaves, element_shape, item_shape, part_shape, leaves_shape, call_shape, are_shapes, is_shape, is_width, one_leaf, tree_shape, shape_step}
 use Rattle.nt_value.specs.declared.digit.Digit.{Digit}
@@ -210,11 +210,6 @@ one_of_repeated (suc size) (suc position) n e same h =
   where
     one_less : suc position * n ≡ n + position * n
     one_less = omega arith
-
--- a position is inside its array
-abbrev pub InBounds : Option ℕ → ℕ → Type 0
-InBounds None size = ⊤
-InBounds (Some position) size = position < size
 
 pub not_back : (b : Bool) → not b ≡ true → b ≡ false
 not_back true h = false_is h

@@ -1,5 +1,5 @@
 // Laws of the definitions.
-ghost use Rattle.nt_design.specs.Fitting.{MeaningsFit, ResultsFit, ValuesFit};
+ghost use Rattle.nt_design.specs.Fitting.{MeaningsFit, PutsAreWrites, ResultsFit, ValuesFit};
 ghost use Rattle.nt_design.specs.Worlds.{ReadsDecide};
 
 /// Does nothing. It says that the value of an expression depends on nothing but the objects that it reads, the moment,
@@ -23,4 +23,9 @@ pub fn results_fit()
 /// or takes too many turns.
 pub fn meanings_fit()
     ensures { MeaningsFit }
+{}
+
+/// Does nothing. It says that a write which was put and is then performed is the write through its path.
+pub fn puts_are_writes()
+    ensures { PutsAreWrites }
 {}

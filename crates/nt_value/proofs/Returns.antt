@@ -28,7 +28,7 @@ known_digit One h = refl
 known_digit X h = absurd (false≢true h)
 known_digit Z h = absurd (false≢true h)
 
-known_digits : (ds : List Digit) → all_known ds ≡ true → map two_state ds ≡ ds
+pub known_digits : (ds : List Digit) → all_known ds ≡ true → map two_state ds ≡ ds
 known_digits [] h = refl
 known_digits (d ∷ ds) h =
     rw (known_digit d (known_left _ _ h)) (ap (λ (es : List Digit). d ∷ es) (known_digits ds (known_right _ _ h)))
