@@ -11,11 +11,11 @@ use Rattle.nt_design.specs.declared.design.Design.{Design}
 use Rattle.nt_design.specs.declared.object.Net.{Net}
 use Rattle.nt_design.specs.declared.object.Object.{Object}
 use Rattle.nt_design.specs.declared.object.Object.TheVariants as object
-use Rattle.nt_machine.specs.Execution.{Observation, observation_of}
+use Rattle.nt_semantics.specs.Execution.{Observation, observation_of}
 use Rattle.nt_machine.specs.Plain.{IsPlainState}
-use Rattle.nt_machine.specs.Same.{is_same_object}
-use Rattle.nt_machine.specs.State.{MachineState, value_at}
-use Rattle.nt_machine.specs.Texts.{object_line, first_of_each, objects_of, displayed_line, slot_text}
+use Rattle.nt_semantics.specs.Same.{is_same_object}
+use Rattle.nt_semantics.specs.State.{MachineState, value_at}
+use Rattle.nt_semantics.specs.Texts.{object_line, first_of_each, objects_of, displayed_line, slot_text}
 use Rattle.nettype_sim.specs.Nets.{first_nets, net_lines}
 use Rattle.nettype_sim.proofs.Steps.{range_from_0}
 

@@ -6,8 +6,8 @@ use Rattle.std.proofs.lemmas.List.FromFn.{length-range_with_len}
 use Rattle.nt_design.specs.WellFormed.{IsDesign}
 use Rattle.nt_design.specs.declared.object.Net.{Net}
 use Rattle.nt_design.specs.declared.design.Design.{Design}
-use Rattle.nt_machine.specs.Same.{is_listed}
-use Rattle.nt_machine.specs.Step.{is_distinct, all_below, is_order}
+use Rattle.nt_semantics.specs.Same.{is_listed}
+use Rattle.nt_semantics.specs.Step.{is_distinct, all_below, is_order}
 use Rattle.std.proofs.Common.{slice_get, Some}
 
 both : (a b : Bool) → a ≡ true → b ≡ true → (a && b) ≡ true

@@ -10,17 +10,17 @@ use Rattle.nt_design.specs.Plain.{IsPlain}
 use Rattle.nt_design.specs.WellFormed.{IsDesign}
 use Rattle.nt_design.specs.declared.design.Design.{Design}
 use Rattle.nt_machine.specs.Plain.{IsPlainState}
-use Rattle.nt_machine.specs.Same.{is_same}
-use Rattle.nt_machine.specs.State.{MachineState, start_state, value_at, place_at, count_at, fewer, more}
-use Rattle.nt_machine.specs.StateFits.{IsStateOf, AtMost}
-use Rattle.nt_machine.specs.Step.{step, is_pending_at, is_some_put}
-use Rattle.nt_machine.specs.Execution.{IsComplete, run, settle, is_active, expansion, copies, is_entry, may_repeat, reads_own_target, reads_target}
-use Rattle.nt_machine.specs.declared.event.Event.{Event}
-use Rattle.nt_machine.specs.declared.event.Event.TheVariants.{Stmt, Assign, Update, Resolve}
-use Rattle.nt_machine.specs.declared.event.Entry.{Entry}
+use Rattle.nt_semantics.specs.Same.{is_same}
+use Rattle.nt_semantics.specs.State.{MachineState, start_state, value_at, place_at, count_at, fewer, more}
+use Rattle.nt_semantics.specs.StateFits.{IsStateOf, AtMost}
+use Rattle.nt_semantics.specs.Step.{step, is_pending_at, is_some_put}
+use Rattle.nt_semantics.specs.Execution.{IsComplete, run, settle, is_active, expansion, copies, is_entry, may_repeat, reads_own_target, reads_target}
+use Rattle.nt_semantics.specs.declared.event.Event.{Event}
+use Rattle.nt_semantics.specs.declared.event.Event.TheVariants.{Stmt, Assign, Update, Resolve}
+use Rattle.nt_semantics.specs.declared.event.Entry.{Entry}
 use Rattle.nt_machine.proofs.Counts.{at_most_counts}
 use Rattle.nt_machine.proofs.Moves.{settled, step_still}
-use Rattle.nt_machine.proofs.StartFitting.{start_fits}
+use Rattle.nt_semantics.proofs.StartFitting.{start_fits}
 use Rattle.nt_machine.proofs.Starts.{start_still}
 use Rattle.nt_machine.proofs.Steps.{can_evaluate, can_resolve, evaluated_to, resolved_to}
 use Rattle.nettype_sim.specs.Progress.{LeadsTo, Evaluated, Resolved, CanResolve, ResolvedTimes}

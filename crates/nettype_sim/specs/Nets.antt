@@ -4,8 +4,8 @@ use Rattle.std.specs.List.{flat_map, range_with_len}
 use Rattle.nt_design.specs.declared.design.Design.{Design}
 use Rattle.nt_design.specs.declared.object.Object.{Object}
 use Rattle.nt_design.specs.declared.object.Object.TheVariants as object
-use Rattle.nt_machine.specs.Execution.{Observation}
-use Rattle.nt_machine.specs.Texts.{object_line}
+use Rattle.nt_semantics.specs.Execution.{Observation}
+use Rattle.nt_semantics.specs.Texts.{object_line}
 
 -- the first n nets, as objects
 abbrev pub first_nets : ℕ → List Object

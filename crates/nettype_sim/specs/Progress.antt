@@ -3,13 +3,13 @@ use Rattle.std.specs.Prelude.{◌≡◌, ℕ, ◌+◌, ◌<◌, ◌≤◌, ◌^�
 use Rattle.nt_design.specs.declared.design.Design.{Design}
 use Rattle.nt_design.specs.declared.object.Net.{Net}
 use Rattle.nt_machine.specs.Plain.{IsPlainState}
-use Rattle.nt_machine.specs.State.{MachineState, count_at}
-use Rattle.nt_machine.specs.StateFits.{IsStateOf, AtMost}
-use Rattle.nt_machine.specs.Execution.{Execution, run}
-use Rattle.nt_machine.specs.Step.{is_order}
-use Rattle.nt_machine.specs.declared.event.Entry.{Entry}
-use Rattle.nt_machine.specs.declared.event.Event.{Event}
-use Rattle.nt_machine.specs.declared.event.Event.TheVariants.{Stmt, Assign, Update, Resolve}
+use Rattle.nt_semantics.specs.State.{MachineState, count_at}
+use Rattle.nt_semantics.specs.StateFits.{IsStateOf, AtMost}
+use Rattle.nt_semantics.specs.Execution.{Execution, run}
+use Rattle.nt_semantics.specs.Step.{is_order}
+use Rattle.nt_semantics.specs.declared.event.Entry.{Entry}
+use Rattle.nt_semantics.specs.declared.event.Event.{Event}
+use Rattle.nt_semantics.specs.declared.event.Event.TheVariants.{Stmt, Assign, Update, Resolve}
 
 -- the entries lead from the start to this state, which is one of a design of nets and constants
 pub record LeadsTo (until : ℕ) (d : Design) (entries : List Entry) (s : MachineState) : Type 0 where

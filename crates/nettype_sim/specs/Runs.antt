@@ -2,10 +2,10 @@
 use Rattle.std.specs.Prelude.{◌≡◌, ◌⊎◌, ℕ, ◌<◌, List, [], ◌++◌, length, take}
 use Rattle.nt_io.specs.Sinks.{SinkMeaning, Gained}
 use Rattle.nt_design.specs.declared.design.Design.{Design}
-use Rattle.nt_machine.specs.State.{MachineState, start_state}
-use Rattle.nt_machine.specs.Execution.{Execution, IsComplete, expansion, ended}
-use Rattle.nt_machine.specs.Texts.{witness_text, witness_head, witness_end, entry_line, entry_lines, trace_text}
-use Rattle.nt_machine.specs.declared.event.Entry.{Entry}
+use Rattle.nt_semantics.specs.State.{MachineState, start_state}
+use Rattle.nt_semantics.specs.Execution.{Execution, IsComplete, expansion, ended}
+use Rattle.nt_semantics.specs.Texts.{witness_text, witness_head, witness_end, entry_line, entry_lines, trace_text}
+use Rattle.nt_semantics.specs.declared.event.Entry.{Entry}
 use Rattle.nettype_sim.specs.Writes.{IsFront}
 
 -- The witness is the text of one list of entries. They stand for an execution of the design that is complete to the

@@ -4,13 +4,14 @@ ghost use Rattle.std.specs.List.{range_with_len};
 ghost use Rattle.nt_design.specs.Plain.{IsPlain};
 ghost use Rattle.nt_design.specs.WellFormed.{IsDesign};
 ghost use Rattle.nt_machine.specs.Plain.{IsPlainState};
-ghost use Rattle.nt_machine.specs.State.{count_at};
-ghost use Rattle.nt_machine.specs.StateFits.{IsStateOf, AtMost};
-ghost use Rattle.nt_machine.specs.Execution.{Execution, IsComplete};
+ghost use Rattle.nt_semantics.specs.State.{count_at};
+ghost use Rattle.nt_semantics.specs.StateFits.{IsStateOf, AtMost};
+ghost use Rattle.nt_semantics.specs.Execution.{Execution, IsComplete};
 ghost use Rattle.nettype_sim.specs.Progress.{Evaluated, Resolved, CanResolve, ResolvedTimes};
 
 use nt_design::{Design, Net};
-use nt_machine::{Entry, Event, Order, State, apply, start};
+use nt_machine::{State, apply, start};
+use nt_semantics::{Entry, Event, Order};
 use sqlite_items::Items;
 use std::alloc::{AllocError, Global};
 

@@ -3,14 +3,15 @@ ghost use Rattle.std.specs.Prelude.{◌≡◌, ◌++◌, ◌∷◌, [], ◌<◌,
 ghost use Rattle.nt_design.specs.Plain.{IsPlain};
 ghost use Rattle.nt_design.specs.WellFormed.{IsDesign};
 ghost use Rattle.nt_machine.specs.Plain.{IsPlainState};
-ghost use Rattle.nt_machine.specs.StateFits.{IsStateOf};
-ghost use Rattle.nt_machine.specs.Execution.{observation_of};
-ghost use Rattle.nt_machine.specs.Texts.{order_text, event_line, entry_lines, slot_text, end_text};
+ghost use Rattle.nt_semantics.specs.StateFits.{IsStateOf};
+ghost use Rattle.nt_semantics.specs.Execution.{observation_of};
+ghost use Rattle.nt_semantics.specs.Texts.{order_text, event_line, entry_lines, slot_text, end_text};
 ghost use Rattle.nt_value.specs.Texts.{value_text};
 ghost use Rattle.nettype_sim.specs.Nets.{net_lines};
 
 use nt_design::{Design, Net};
-use nt_machine::{Entry, Event, State};
+use nt_machine::State;
+use nt_semantics::{Entry, Event};
 use nt_value::{Text, Value, print};
 use std::alloc::{AllocError, Global};
 

@@ -4,12 +4,12 @@ use Rattle.std.proofs.lemmas.Option.{none-some}
 use Rattle.nt_design.specs.declared.design.Design.{Design}
 use Rattle.nt_design.specs.Plain.{IsPlain}
 use Rattle.nt_machine.specs.Plain.{IsPlainState}
-use Rattle.nt_machine.specs.Same.{is_same}
-use Rattle.nt_machine.specs.State.{MachineState, start_state, place_at, value_at, count_at, more, fewer}
-use Rattle.nt_machine.specs.StateFits.{AtMost}
-use Rattle.nt_machine.specs.Step.{step, is_pending_at}
-use Rattle.nt_machine.specs.declared.event.Event.{Event}
-use Rattle.nt_machine.specs.declared.event.Event.TheVariants.{Stmt, Assign as AssignEvent, Update, Resolve}
+use Rattle.nt_semantics.specs.Same.{is_same}
+use Rattle.nt_semantics.specs.State.{MachineState, start_state, place_at, value_at, count_at, more, fewer}
+use Rattle.nt_semantics.specs.StateFits.{AtMost}
+use Rattle.nt_semantics.specs.Step.{step, is_pending_at}
+use Rattle.nt_semantics.specs.declared.event.Event.{Event}
+use Rattle.nt_semantics.specs.declared.event.Event.TheVariants.{Stmt, Assign as AssignEvent, Update, Resolve}
 use Rattle.nt_machine.proofs.Moves.{step_still}
 use Rattle.nt_machine.proofs.Steps.{evaluated_to, resolved_to, no_statement, no_update}
 

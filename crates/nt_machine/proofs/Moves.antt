@@ -4,13 +4,13 @@ use Rattle.std.specs.List.{list_any}
 use Rattle.std.proofs.lemmas.Bool.{false≢true}
 use Rattle.std.proofs.lemmas.Option.{same_Some, none-some}
 use Rattle.nt_design.specs.declared.design.Design.{Design}
-use Rattle.nt_machine.specs.State.{MachineState, count_at}
-use Rattle.nt_machine.specs.Step.{step, is_pending_at, is_some_put}
-use Rattle.nt_machine.specs.Execution.{settle, move, is_active, is_inactive, has_inactive, activate, move_updates, begin_next, next_moment, run, ended, seen, if_some, observation_of}
+use Rattle.nt_semantics.specs.State.{MachineState, count_at}
+use Rattle.nt_semantics.specs.Step.{step, is_pending_at, is_some_put}
+use Rattle.nt_semantics.specs.Execution.{settle, move, is_active, is_inactive, has_inactive, activate, move_updates, begin_next, next_moment, run, ended, seen, if_some, observation_of}
 use Rattle.nt_design.specs.Plain.{IsPlain}
 use Rattle.nt_machine.specs.Plain.{IsPlainState}
-use Rattle.nt_machine.specs.declared.event.Event.{Event}
-use Rattle.nt_machine.specs.declared.event.Event.TheVariants.{Stmt, Assign as AssignEvent, Update, Resolve}
+use Rattle.nt_semantics.specs.declared.event.Event.{Event}
+use Rattle.nt_semantics.specs.declared.event.Event.TheVariants.{Stmt, Assign as AssignEvent, Update, Resolve}
 use Rattle.nt_machine.proofs.Steps.{evaluates, resolves, evaluated_to, resolved_to, driven_still, published_still, no_statement, no_update}
 
 if_same : {A : Type 0} (b : Bool) (x : A) → (if b then x else x) ≡ x

@@ -10,7 +10,7 @@ use Rattle.nt_design.specs.declared.process.Assign.{Assign}
 use Rattle.nt_design.specs.declared.process.Proc.{Proc}
 use Rattle.nt_design.specs.declared.target.Target.{Target}
 use Rattle.nt_design.specs.declared.target.Target.TheVariants as target
-use Rattle.nt_machine.specs.State.{Unbegun, Ready, is_comb, start_items, start_state, start_nets, slot_start, net_start, net_shape, value_at}
+use Rattle.nt_semantics.specs.State.{Unbegun, Ready, is_comb, start_items, start_state, start_nets, slot_start, net_start, net_shape, value_at}
 use Rattle.nt_design.specs.Plain.{IsPlain, IsConstantDriver, IsWholeSlot, net_of}
 use Rattle.nt_machine.specs.Plain.{IsPlainState}
 

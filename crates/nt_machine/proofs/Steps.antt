@@ -27,15 +27,16 @@ use Rattle.nt_design.specs.declared.target.Target.{Target}
 use Rattle.nt_design.specs.declared.target.Target.TheVariants as target
 use Rattle.nt_design.proofs.Values.{value_const, meaning_of_const}
 use Rattle.nt_design.proofs.Constants.{shape_const}
-use Rattle.nt_machine.specs.Same.{is_same, is_one_of}
-use Rattle.nt_machine.specs.State.{Over, MachineState, place_at, items_at, count_at, value_at, net_shape, more, each_below, world_of}
-use Rattle.nt_machine.specs.StateFits.{IsStateOf, slot_shape}
-use Rattle.nt_machine.specs.Step.{step, is_pending_at, is_some_item, is_some_put, proc_step, update_step, only_if, in_turns, assign_step, resolve_step, driven, evaluated, resolved, set_net, contribution, is_order, is_order_of, net_value, in_order, is_pending}
-use Rattle.nt_machine.specs.Wake.{wake, calls_of, reads_at, one_more_if, place_after, items_after, waking_at}
+use Rattle.nt_semantics.specs.Same.{is_same, is_one_of}
+use Rattle.nt_semantics.specs.State.{Over, MachineState, place_at, items_at, count_at, value_at, net_shape, more, each_below, world_of}
+use Rattle.nt_semantics.specs.StateFits.{IsStateOf, slot_shape}
+use Rattle.nt_semantics.specs.Step.{step, is_pending_at, is_some_item, is_some_put, proc_step, update_step, only_if, in_turns, assign_step, resolve_step, driven, evaluated, resolved, set_net, contribution, is_order, is_order_of, net_value, in_order, is_pending}
+use Rattle.nt_semantics.proofs.Columns.{net_shape_there, slot_has, slot_of_net}
+use Rattle.nt_semantics.specs.Wake.{wake, calls_of, reads_at, one_more_if, place_after, items_after, waking_at}
 use Rattle.nt_design.specs.Plain.{IsPlain, IsConstantDriver, IsWholeSlot, net_of}
 use Rattle.nt_machine.specs.Plain.{IsPlainState, driven_plain, published_plain}
-use Rattle.nt_machine.specs.declared.event.Event.{Event}
-use Rattle.nt_machine.specs.declared.event.Event.TheVariants.{Stmt, Assign as AssignEvent, Update, Resolve}
+use Rattle.nt_semantics.specs.declared.event.Event.{Event}
+use Rattle.nt_semantics.specs.declared.event.Event.TheVariants.{Stmt, Assign as AssignEvent, Update, Resolve}
 
 only_if_some : {A : Type 0} (b : Bool) (o : Option A) → IsSome (only_if b o) → (b ≡ true) × IsSome o
 only_if_some true o h = (refl, h)
@@ -163,10 +164,6 @@ pub slots_long : (d : Design) (s : MachineState) → IsStateOf d s → length s.
 slots_long d s of =
     sym (length-map s.slots shape_of) ∙ ap (λ (l : List (List Leaf)). length l) of.slots ∙ length-map d.assigns (λ (assign : Assign). slot_shape d assign.target)
 
-pub net_shape_there : (d : Design) (n : ℕ) (net : Net) → slice_get d.nets n ≡ Some net → net_shape d n ≡ net.shape
-net_shape_there d n net here =
-    get_or_from_slice_get (net_shapes d) n net.shape [] (slice_get-map (λ (net : Net). net.shape) d.nets n ∙ ap (option_map (λ (net : Net). net.shape)) here)
-
 -- the net of a driver, and the driver's leaves
 pub record DrivesNet (d : Design) (a : ℕ) (assign : Assign) (value : Value) : Type 0 where
   pub net : Net
@@ -252,13 +249,6 @@ no_proc : (procs : List Proc) (p : ℕ) (proc : Proc) → procs ≡ [] → slice
 no_proc [] p proc h at = none-some proc at
 no_proc (x ∷ xs) p proc h at = let e = ap length h in omega (arith, e)
 
--- the leaves of an assignment's slot in a state
-pub slot_has : (d : Design) (s : MachineState) (a : ℕ) (assign : Assign) → IsStateOf d s → slice_get d.assigns a ≡ Some assign → shape_of (get_or s.slots a []) ≡ slot_shape d assign.target
-slot_has d s a assign of here =
-    sym (get_or-map shape_of s.slots a [])
-    ∙ ap (λ (l : List (List Leaf)). get_or l a []) of.slots
-    ∙ get_or_from_slice_get (map (λ (assign : Assign). slot_shape d assign.target) d.assigns) a (slot_shape d assign.target) [] (slice_get-map (λ (assign : Assign). slot_shape d assign.target) d.assigns a ∙ ap (option_map (λ (assign : Assign). slot_shape d assign.target)) here)
-
 value_has : (d : Design) (s : MachineState) (n : ℕ) → IsStateOf d s → shape_of (get_or s.nets n []) ≡ net_shape d n
 value_has d s n of = sym (get_or-map shape_of s.nets n []) ∙ ap (λ (l : List (List Leaf)). get_or l n []) of.nets
 
@@ -313,12 +303,6 @@ net_value_some d kind shape values h =
     some : (values : List Value) → (value : Value) × (net_value d Unresolved shape values ≡ Some value)
     some [] = (default_value shape, refl)
     some (v ∷ vs) = (v, refl)
-
--- the slot of a driver has the leaves of the net that lists it
-pub slot_of_net : (d : Design) (n slot : ℕ) (t : Target) → IsSlotOf n slot t → slot_shape d t ≡ net_shape d n
-slot_of_net d n slot (target.Slot m k low width) is = ap (net_shape d) is.0
-slot_of_net d n slot (target.Var v path) is = absurd is
-slot_of_net d n slot (target.Local i path) is = absurd is
 
 resolved_shape : (d : Design) (s : MachineState) (n : ℕ) (net : Net) (order : List ℕ) (value : Value) → IsDesign d → IsPlain d → IsStateOf d s → slice_get d.nets n ≡ Some net → is_order (length net.slots) order ≡ true → net_value d net.kind net.shape (in_order s.slots net.slots order) ≡ Some value → shape_of value ≡ net.shape
 resolved_shape d s n net order value is plain of here ordered value_is =

@@ -1,13 +1,1 @@
-pub mod Execution
-pub mod Laws
-pub mod Lines
 pub mod Plain
-pub mod Puts
-pub mod Rounds
-pub mod Same
-pub mod State
-pub mod StateFits
-pub mod Statements
-pub mod Step
-pub mod Texts
-pub mod Wake

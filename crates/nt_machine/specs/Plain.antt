@@ -2,8 +2,8 @@
 -- in which nothing is anywhere but in Active, and there only evaluations and resolutions.
 use Rattle.std.specs.Prelude.{◌≡◌, ℕ, false, if◌then◌else◌, [], slice_set}
 use Rattle.nt_design.specs.Parts.{Value}
-use Rattle.nt_machine.specs.Same.{is_same}
-use Rattle.nt_machine.specs.State.{MachineState, value_at, more, fewer}
+use Rattle.nt_semantics.specs.Same.{is_same}
+use Rattle.nt_semantics.specs.State.{MachineState, value_at, more, fewer}
 
 -- no procedure waits or is ready, and nothing is put into another region
 pub record IsPlainState (s : MachineState) : Type 0 where

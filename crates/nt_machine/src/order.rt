@@ -1,7 +1,7 @@
 // Orders of slots.
 ghost use Rattle.std.specs.Prelude.{◌≡◌, length};
-ghost use Rattle.nt_machine.specs.Same.{is_listed};
-ghost use Rattle.nt_machine.specs.Step.{is_distinct, all_below, is_order};
+ghost use Rattle.nt_semantics.specs.Same.{is_listed};
+ghost use Rattle.nt_semantics.specs.Step.{is_distinct, all_below, is_order};
 
 fn has(number: u32, numbers: &[u32]) -> bool
     ensures { result ≡ is_listed number numbers.now }

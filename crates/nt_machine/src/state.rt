@@ -5,14 +5,14 @@ ghost use Rattle.nt_value.specs.Values.{default_value};
 ghost use Rattle.nt_design.specs.WellFormed.{IsDesign};
 ghost use Rattle.nt_design.specs.declared.object.Net.{Net as NetValue};
 ghost use Rattle.nt_design.specs.declared.process.Assign.{Assign as AssignValue};
-ghost use Rattle.nt_machine.specs.State.{MachineState, start_state, net_shape, count_at};
-ghost use Rattle.nt_machine.specs.Step.{copies_of};
-ghost use Rattle.nt_machine.specs.Execution.{is_active, settle, MovedBy};
+ghost use Rattle.nt_semantics.specs.State.{MachineState, start_state, net_shape, count_at};
+ghost use Rattle.nt_semantics.specs.Step.{copies_of};
+ghost use Rattle.nt_semantics.specs.Execution.{is_active, settle, MovedBy};
 ghost use Rattle.nt_design.specs.Plain.{IsPlain, IsWholeSlot, net_of};
 ghost use Rattle.nt_machine.specs.Plain.{IsPlainState};
 
-use crate::{Event, Moved};
 use nt_design::{Design, Env, Net, Target};
+use nt_semantics::{Event, Moved};
 use nt_value::{Value, default_of};
 use sqlite_items::Items;
 use std::alloc::{AllocError, Global};
@@ -33,7 +33,7 @@ impl Model for State {
     ghost use Rattle.std.specs.Coded.{codes};
     ghost use Rattle.nt_design.specs.contracts.act.Act as act;
     ghost use Rattle.nt_design.specs.contracts.tree.Tree as tree;
-    ghost use Rattle.nt_machine.specs.State.{MachineState};
+    ghost use Rattle.nt_semantics.specs.State.{MachineState};
 
     ghost Value = { MachineState };
 
@@ -84,7 +84,7 @@ impl State {
         }
     }
 
-    #[tactic(auto, unfolding(crate::specs::Execution::is_active))]
+    #[tactic(auto, unfolding(nt_semantics::specs::Execution::is_active))]
     fn is_active(&self) -> bool
         ensures { result ≡ is_active self.now }
     {

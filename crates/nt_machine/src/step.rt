@@ -4,15 +4,16 @@ ghost use Rattle.nt_design.specs.WellFormed.{IsDesign};
 ghost use Rattle.nt_design.specs.declared.object.NetKind.TheVariants.{Unresolved};
 ghost use Rattle.nt_design.specs.Plain.{IsPlain};
 ghost use Rattle.nt_machine.specs.Plain.{IsPlainState, driven_plain, published_plain};
-ghost use Rattle.nt_machine.specs.Same.{is_same};
-ghost use Rattle.nt_machine.specs.State.{more, fewer, count_at};
-ghost use Rattle.nt_machine.specs.StateFits.{IsStateOf, AtMost};
-ghost use Rattle.nt_machine.specs.Step.{step, is_pending, is_order, is_order_of, net_value, in_order};
+ghost use Rattle.nt_semantics.specs.Same.{is_same};
+ghost use Rattle.nt_semantics.specs.State.{more, fewer, count_at};
+ghost use Rattle.nt_semantics.specs.StateFits.{IsStateOf, AtMost};
+ghost use Rattle.nt_semantics.specs.Step.{step, is_pending, is_order, is_order_of, net_value, in_order};
 
+use crate::State;
 use crate::order::names_each_slot;
 use crate::state::{count_of, net_at, target_net};
-use crate::{Event, State};
 use nt_design::{Assign, Design, Net, NetKind, Stop, meaning};
+use nt_semantics::Event;
 use nt_value::{Value, copy, default_of, same};
 use sqlite_items::Items;
 use std::alloc::{AllocError, Global};
@@ -26,14 +27,14 @@ fn is_order_of(design: &Design, net: u32, order: &[u32]) -> bool
     }
 }
 
-#[tactic(auto, unfolding(crate::specs::Step::is_pending))]
+#[tactic(auto, unfolding(nt_semantics::specs::Step::is_pending))]
 fn is_evaluation_pending(design: &Design, state: &State, assign: u32) -> bool
     ensures { result ≡ is_pending design.now state.now (Event.Assign assign) }
 {
     count_of(state.evaluations.as_slice(), assign) > 0 && (assign as usize) < design.assigns.len()
 }
 
-#[tactic(auto, unfolding(crate::specs::Step::is_pending))]
+#[tactic(auto, unfolding(nt_semantics::specs::Step::is_pending))]
 fn is_resolution_pending(design: &Design, state: &State, net: u32, order: &[u32]) -> bool
     ensures { result ≡ is_pending design.now state.now (Event.Resolve net order.now) }
 {
@@ -41,7 +42,7 @@ fn is_resolution_pending(design: &Design, state: &State, net: u32, order: &[u32]
 }
 
 /// Whether the event is in Active and the order of a resolution is one of its net's slots. It takes no memory.
-#[tactic(auto, unfolding(crate::specs::Step::is_pending))]
+#[tactic(auto, unfolding(nt_semantics::specs::Step::is_pending))]
 pub fn pending(design: &Design, state: &State, event: &Event) -> bool
     requires state { IsStateOf design.now state.now }
     requires plain { IsPlainState state.now }

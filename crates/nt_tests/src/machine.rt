@@ -8,10 +8,11 @@ ghost use Rattle.nt_design.specs.declared.object.NetKind.TheVariants.{Unresolved
 ghost use Rattle.nt_design.specs.declared.target.Target.TheVariants.{Slot};
 ghost use Rattle.nt_design.specs.declared.tree.Tree.TheVariants.{Const};
 ghost use Rattle.nt_machine.specs.Plain.{IsPlainState};
-ghost use Rattle.nt_machine.specs.StateFits.{IsStateOf, AtMost};
+ghost use Rattle.nt_semantics.specs.StateFits.{IsStateOf, AtMost};
 
 use nt_design::{Assign, Design, Net, NetKind, Object, Scoped, Target, Tree};
-use nt_machine::{Event, Order, State, allowed, apply, start};
+use nt_machine::{State, allowed, apply, start};
+use nt_semantics::{Event, Order};
 use nt_value::{Base, Bits, Leaf, Name, Place, Shape, Unit, Value, same};
 use sqlite_items::Items;
 use std::alloc::{AllocError, Global};

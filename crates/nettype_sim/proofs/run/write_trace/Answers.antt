@@ -1,5 +1,5 @@
 use Rattle.std.proofs.Common.{◌∙◌}
-use Rattle.nt_machine.specs.Execution.{observation_of}
+use Rattle.nt_semantics.specs.Execution.{observation_of}
 use Rattle.nettype_sim.proofs.Outputs.{if_err_any, trace_written, trace_cut_in_slot, trace_cut_in_end}
 use Rattle.nettype_sim.proofs.run.write_trace.Goals as goal
 

@@ -1,6 +1,6 @@
 use Rattle.std.proofs.Common.{◌∙◌, ap, refl, arith, List, ℕ, length}
 use Rattle.std.specs.List.{range_with_len}
-use Rattle.nt_machine.specs.Step.{is_order}
+use Rattle.nt_semantics.specs.Step.{is_order}
 use Rattle.nettype_sim.proofs.Orders.{range_is_order, few_slots}
 use Rattle.nettype_sim.proofs.slot.resolution_of.Goals as goal
 

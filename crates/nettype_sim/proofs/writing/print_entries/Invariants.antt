@@ -1,6 +1,6 @@
 use Rattle.std.proofs.Common.{◌≡◌, ◌++◌, take}
 use Rattle.std.specs.List.{flat_map}
-use Rattle.nt_machine.specs.Texts.{entry_line}
+use Rattle.nt_semantics.specs.Texts.{entry_line}
 use Rattle.nettype_sim.proofs.writing.print_entries.Given as goal
 
 abbrev pub invariant-loop-entry : goal.invariant-loop-entry

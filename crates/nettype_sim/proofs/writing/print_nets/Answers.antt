@@ -1,4 +1,4 @@
-use Rattle.nt_machine.specs.Execution.{observation_of}
+use Rattle.nt_semantics.specs.Execution.{observation_of}
 use Rattle.nettype_sim.proofs.Lines.{lines_more}
 use Rattle.nettype_sim.proofs.writing.print_nets.Goals as goal
 

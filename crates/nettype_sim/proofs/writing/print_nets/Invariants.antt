@@ -1,5 +1,5 @@
 use Rattle.std.proofs.Common.{◌≡◌, ◌++◌}
-use Rattle.nt_machine.specs.Execution.{observation_of}
+use Rattle.nt_semantics.specs.Execution.{observation_of}
 use Rattle.nettype_sim.specs.Nets.{net_lines}
 use Rattle.nettype_sim.proofs.writing.print_nets.Given as goal
 

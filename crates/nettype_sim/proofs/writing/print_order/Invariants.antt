@@ -1,5 +1,5 @@
 use Rattle.std.proofs.Common.{◌≡◌, ◌++◌, take}
-use Rattle.nt_machine.specs.Texts.{order_text}
+use Rattle.nt_semantics.specs.Texts.{order_text}
 use Rattle.nettype_sim.proofs.writing.print_order.Given as goal
 
 abbrev pub invariant-loop-slot : goal.invariant-loop-slot

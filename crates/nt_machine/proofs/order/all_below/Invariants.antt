@@ -1,5 +1,5 @@
 use Rattle.std.proofs.Common.{◌≡◌, drop}
-use Rattle.nt_machine.specs.Step.{all_below}
+use Rattle.nt_semantics.specs.Step.{all_below}
 use Rattle.nt_machine.proofs.order.all_below.Given as goal
 
 abbrev pub invariant-loop-number : goal.invariant-loop-number

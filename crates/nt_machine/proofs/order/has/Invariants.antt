@@ -1,5 +1,5 @@
 use Rattle.std.proofs.Common.{◌≡◌, drop}
-use Rattle.nt_machine.specs.Same.{is_listed}
+use Rattle.nt_semantics.specs.Same.{is_listed}
 use Rattle.nt_machine.proofs.order.has.Given as goal
 
 abbrev pub invariant-loop-other : goal.invariant-loop-other

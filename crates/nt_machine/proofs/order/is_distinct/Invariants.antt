@@ -1,5 +1,5 @@
 use Rattle.std.proofs.Common.{◌≡◌, length}
-use Rattle.nt_machine.specs.Step.{is_distinct}
+use Rattle.nt_semantics.specs.Step.{is_distinct}
 use Rattle.nt_machine.proofs.order.is_distinct.Given as goal
 
 abbrev pub invariant-loop-rest : goal.invariant-loop-rest

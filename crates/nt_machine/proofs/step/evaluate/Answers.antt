@@ -1,8 +1,8 @@
 use Rattle.std.proofs.Common.{◌∙◌, Some, ap, subst, arith, sym, []}
 use Rattle.nt_machine.specs.Plain.{IsPlainState}
-use Rattle.nt_machine.specs.State.{MachineState}
-use Rattle.nt_machine.specs.StateFits.{IsStateOf}
-use Rattle.nt_machine.specs.declared.event.Event.TheVariants.{Resolve}
+use Rattle.nt_semantics.specs.State.{MachineState}
+use Rattle.nt_semantics.specs.StateFits.{IsStateOf}
+use Rattle.nt_semantics.specs.declared.event.Event.TheVariants.{Resolve}
 use Rattle.nt_machine.proofs.Steps.{evaluates, evaluates_keeps, assign_within, step_evaluates, given_value, value_given, driven_still, driven_as}
 use Rattle.nt_machine.proofs.step.evaluate.Goals as goal
 

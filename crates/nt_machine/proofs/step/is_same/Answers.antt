@@ -1,4 +1,4 @@
-use Rattle.nt_machine.proofs.Sames.{same_is}
+use Rattle.nt_semantics.proofs.Sames.{same_is}
 use Rattle.nt_machine.proofs.step.is_same.Goals as goal
 
 pub returns : goal.returns

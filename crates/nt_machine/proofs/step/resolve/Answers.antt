@@ -1,7 +1,7 @@
 use Rattle.std.proofs.Common.{◌∙◌, Some, ap, sym, subst}
 use Rattle.nt_machine.specs.Plain.{IsPlainState}
-use Rattle.nt_machine.specs.State.{MachineState}
-use Rattle.nt_machine.specs.StateFits.{IsStateOf}
+use Rattle.nt_semantics.specs.State.{MachineState}
+use Rattle.nt_semantics.specs.StateFits.{IsStateOf}
 use Rattle.nt_machine.proofs.Steps.{resolves, resolves_keeps, net_within, step_resolves, same_net, published_still}
 use Rattle.nt_machine.proofs.step.resolve.Goals as goal
 

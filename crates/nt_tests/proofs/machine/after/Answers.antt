@@ -1,6 +1,6 @@
 use Rattle.std.proofs.Common.{◌+◌}
 use Rattle.nt_machine.proofs.Counts.{start_at_most}
-use Rattle.nt_machine.proofs.StartFitting.{start_fits}
+use Rattle.nt_semantics.proofs.StartFitting.{start_fits}
 use Rattle.nt_machine.proofs.Starts.{start_still}
 use Rattle.nt_tests.proofs.machine.after.Goals as goal
 

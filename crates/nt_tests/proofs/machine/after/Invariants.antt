@@ -1,6 +1,6 @@
 use Rattle.std.proofs.Common.{◌+◌}
 use Rattle.nt_machine.specs.Plain.{IsPlainState}
-use Rattle.nt_machine.specs.StateFits.{IsStateOf, AtMost}
+use Rattle.nt_semantics.specs.StateFits.{IsStateOf, AtMost}
 use Rattle.nt_tests.proofs.machine.after.Given as goal
 
 abbrev pub invariant-loop-event : goal.invariant-loop-event

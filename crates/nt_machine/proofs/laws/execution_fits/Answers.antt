@@ -1,5 +1,0 @@
-use Rattle.nt_machine.proofs.StepKeeps.{execution_fits}
-use Rattle.nt_machine.proofs.laws.execution_fits.Goals as goal
-
-pub returns : goal.returns
-returns c = execution_fits

@@ -1,5 +1,0 @@
-use Rattle.nt_machine.proofs.Keeping.{move_keeps}
-use Rattle.nt_machine.proofs.laws.move_keeps.Goals as goal
-
-pub returns : goal.returns
-returns c = move_keeps

@@ -1,5 +1,0 @@
-use Rattle.nt_machine.proofs.InActive.{only_pending}
-use Rattle.nt_machine.proofs.laws.only_pending.Goals as goal
-
-pub returns : goal.returns
-returns c = only_pending

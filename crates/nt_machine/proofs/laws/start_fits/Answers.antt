@@ -1,5 +1,0 @@
-use Rattle.nt_machine.proofs.StartFitting.{start_fits}
-use Rattle.nt_machine.proofs.laws.start_fits.Goals as goal
-
-pub returns : goal.returns
-returns c = start_fits

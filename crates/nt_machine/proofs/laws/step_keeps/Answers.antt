@@ -1,5 +1,0 @@
-use Rattle.nt_machine.proofs.StepKeeps.{step_keeps}
-use Rattle.nt_machine.proofs.laws.step_keeps.Goals as goal
-
-pub returns : goal.returns
-returns c = step_keeps

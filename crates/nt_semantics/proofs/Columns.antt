@@ -1,0 +1,31 @@
+-- What stands in the columns of a state at the number of a net or of an assignment.
+use Rattle.std.proofs.Common.{◌≡◌, ℕ, List, [], get_or, map, Some, slice_get, option_map, sym, ◌∙◌, ap}
+use Rattle.std.proofs.Math.ListN.{get_or-map}
+use Rattle.std.proofs.lemmas.Option.{slice_get-map, get_or_from_slice_get}
+use Rattle.nt_value.specs.Values.{shape_of}
+use Rattle.nt_value.specs.declared.leaf.Leaf.{Leaf}
+use Rattle.nt_design.specs.WellFormed.{IsSlotOf, net_shapes}
+use Rattle.nt_design.specs.declared.design.Design.{Design}
+use Rattle.nt_design.specs.declared.object.Net.{Net}
+use Rattle.nt_design.specs.declared.process.Assign.{Assign}
+use Rattle.nt_design.specs.declared.target.Target.{Target}
+use Rattle.nt_design.specs.declared.target.Target.TheVariants as target
+use Rattle.nt_semantics.specs.State.{MachineState, net_shape}
+use Rattle.nt_semantics.specs.StateFits.{IsStateOf, slot_shape}
+
+pub net_shape_there : (d : Design) (n : ℕ) (net : Net) → slice_get d.nets n ≡ Some net → net_shape d n ≡ net.shape
+net_shape_there d n net here =
+    get_or_from_slice_get (net_shapes d) n net.shape [] (slice_get-map (λ (net : Net). net.shape) d.nets n ∙ ap (option_map (λ (net : Net). net.shape)) here)
+
+-- the leaves of an assignment's slot in a state
+pub slot_has : (d : Design) (s : MachineState) (a : ℕ) (assign : Assign) → IsStateOf d s → slice_get d.assigns a ≡ Some assign → shape_of (get_or s.slots a []) ≡ slot_shape d assign.target
+slot_has d s a assign of here =
+    sym (get_or-map shape_of s.slots a [])
+    ∙ ap (λ (l : List (List Leaf)). get_or l a []) of.slots
+    ∙ get_or_from_slice_get (map (λ (assign : Assign). slot_shape d assign.target) d.assigns) a (slot_shape d assign.target) [] (slice_get-map (λ (assign : Assign). slot_shape d assign.target) d.assigns a ∙ ap (option_map (λ (assign : Assign). slot_shape d assign.target)) here)
+
+-- the slot of a driver has the leaves of the net that lists it
+pub slot_of_net : (d : Design) (n slot : ℕ) (t : Target) → IsSlotOf n slot t → slot_shape d t ≡ net_shape d n
+slot_of_net d n slot (target.Slot m k low width) is = ap (net_shape d) is.0
+slot_of_net d n slot (target.Var v path) is = absurd is
+slot_of_net d n slot (target.Local i path) is = absurd is

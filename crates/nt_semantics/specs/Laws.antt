@@ -1,0 +1,69 @@
+-- Laws of the definitions, each a statement for a function without a body to promise.
+use Rattle.std.specs.Prelude.{◌≡◌, ◌↔◌, ◌⊎◌, ◌<◌, ℕ, true, false, List, Some, None}
+use Rattle.std.specs.List.{range_with_len}
+use Rattle.std.specs.List.Sorted.{IsPermutation}
+use Rattle.nt_design.specs.WellFormed.{IsDesign}
+use Rattle.nt_design.specs.declared.design.Design.{Design}
+use Rattle.nt_semantics.specs.Execution.{Execution, is_active, is_over, move, may_repeat, steps, expansion}
+use Rattle.nt_semantics.specs.Rounds.{Process, RoundState, round}
+use Rattle.nt_semantics.specs.State.{MachineState, start_state, fewer}
+use Rattle.nt_semantics.specs.StateFits.{IsStateOf}
+use Rattle.nt_semantics.specs.Step.{step, is_pending, is_order, copies_of}
+use Rattle.nt_semantics.specs.declared.event.Entry.{Entry}
+use Rattle.nt_semantics.specs.declared.event.Event.{Event}
+use Rattle.nt_semantics.specs.declared.event.Event.TheVariants.{Stmt, Assign as AssignEvent, Update, Resolve}
+
+-- the orders of n slots are the permutations of the numbers below n
+abbrev pub OrdersArePermutations : Type 0
+OrdersArePermutations = (n : ℕ) (order : List ℕ) → (is_order n order ≡ true) ↔ IsPermutation (range_with_len 0 n) order
+
+-- the start state is one of its design
+abbrev pub StartFits : Type 0
+StartFits = (d : Design) → IsDesign d → IsStateOf d (start_state d)
+
+-- a step keeps a state of a design
+abbrev pub StepKeeps : Type 0
+StepKeeps = (d : Design) (s t : MachineState) (e : Event) → IsDesign d → IsStateOf d s → step d s e ≡ Some t → IsStateOf d t
+
+-- a move keeps a state of a design
+abbrev pub MoveKeeps : Type 0
+MoveKeeps =
+    (until : ℕ) (d : Design) (s t : MachineState) → IsDesign d → IsStateOf d s → is_active s ≡ false → move until s ≡ Some t → IsStateOf d t
+
+-- an execution ends in a state of its design
+abbrev pub ExecutionFits : Type 0
+ExecutionFits =
+    (until : ℕ) (d : Design) (entries : List Entry) (s : MachineState) → IsDesign d → Execution until d entries s → IsStateOf d s
+
+-- one move makes Active not empty, whether it stays in the slot or begins a later one
+abbrev pub MoveFills : Type 0
+MoveFills =
+    (until : ℕ) (s t : MachineState) → move until s ≡ Some t → is_active t ≡ true
+
+-- a move begins a slot only where the slot before is over, and then a later one
+abbrev pub MoveStays : Type 0
+MoveStays =
+    (until : ℕ) (d : Design) (s t : MachineState) → IsStateOf d s → is_active s ≡ false → move until s ≡ Some t → ((is_over s ≡ false) × (t.moment ≡ s.moment)) ⊎ ((is_over s ≡ true) × (s.moment < t.moment))
+
+-- an event that isn't pending has no step
+abbrev pub OnlyPending : Type 0
+OnlyPending = (d : Design) (s : MachineState) (e : Event) → is_pending d s e ≡ false → step d s e ≡ None
+
+-- one copy of an event fewer in Active, and all else as it was
+abbrev pub without : MachineState → Event → MachineState
+without s (AssignEvent a) = record s { evaluations = fewer 1 s.evaluations a }
+without s (Resolve n order) = record s { resolutions = fewer 1 s.resolutions n }
+without s (Stmt p) = s
+without s Update = s
+
+-- A further copy of an event that may repeat, right after it, is allowed and changes nothing but the number of its copies. So
+-- an entry may stand for several (4.7 leaves their order free).
+abbrev pub AgainChangesNothing : Type 0
+AgainChangesNothing =
+    (d : Design) (s t : MachineState) (e : Event) → IsDesign d → IsStateOf d s → may_repeat d e ≡ true → step d s e ≡ Some t → 0 < copies_of t e → step d t e ≡ Some (without t e)
+
+-- ---- rounds
+-- the entries of a round are steps from its start to its end, with no move between them
+abbrev pub RoundLeads : Type 0
+RoundLeads =
+    (d : Design) (groups : List (List Process)) (orders : ℕ → List ℕ) (r : RoundState) → steps d (expansion (round d groups orders r).entries) r.state ≡ Some (round d groups orders r).after.state
