@@ -2,6 +2,8 @@
 use Rattle.std.proofs.Common.{◌≡◌, ℕ, zero, suc, List, [], ◌∷◌, map, length, refl, ap, sym, subst, ◌∙◌}
 use Rattle.std.specs.Prelude.{◌+◌, nat_le, All, Bool, true, ◌&&◌, if◌then◌else◌, Option, Some, None, get_or, slice_get, slice_set}
 use Rattle.std.specs.List.{list_all}
+use Rattle.std.proofs.Math.ListN.{get_or-map}
+use Rattle.std.proofs.lemmas.Option.{get_or_from_slice_get}
 use Rattle.std.proofs.lemmas.Bool.{and_parts, leb-true}
 use Rattle.std.proofs.lemmas.List.Elements.{All-cons, All-head, All-tail}
 use Rattle.nt_value.specs.Operators.{unsigned_leaf}
@@ -73,6 +75,18 @@ set_kept shapes locals i v h has = record {
     of_digits (w ∷ locals) zero h has = All-cons Filled v locals (has (shape_of w) refl) (All-tail Filled w locals h)
     of_digits (w ∷ locals) (suc i) h has =
         All-cons Filled w (slice_set locals i v) (All-head Filled w locals h) (of_digits locals i (All-tail Filled w locals h) has)
+
+-- the value at a place is one of the shape there
+pub value_there : (shapes : List (List Leaf)) (values : List Value) (i : ℕ) → AreValuesOf shapes values → IsValueOf (get_or shapes i []) (get_or values i [])
+value_there shapes values i h = record {
+  leaves = sym (get_or-map shape_of values i []) ∙ ap (λ l. get_or l i []) h.leaves;
+  filled = all_at Filled values i [] none_filled h.filled;
+}
+
+-- another such value in its place
+pub value_set : (shapes : List (List Leaf)) (values : List Value) (i : ℕ) (v : Value) → AreValuesOf shapes values → IsValueOf (get_or shapes i []) v → AreValuesOf shapes (slice_set values i v)
+value_set shapes values i v h is =
+    set_kept shapes values i v h (λ s at. subst (λ r. IsValueOf r v) (get_or_from_slice_get shapes i s [] at) is)
 
 -- ---- paths
 -- a step leads to the part that its shape says

@@ -54,7 +54,7 @@ time_filled n = number_filled (unsigned_leaf 64 true) _ (length-binary 64 n) (al
 pub leaves_filled : (first count : ℕ) (v : Value) → Filled v → Filled (leaves_at first count v)
 leaves_filled first count v h = All-take IsFilled count (drop first v) (All-drop IsFilled first v h)
 
-with_leaves_filled : (first count : ℕ) (part v : Value) → Filled part → Filled v → Filled (with_leaves first count part v)
+pub with_leaves_filled : (first count : ℕ) (part v : Value) → Filled part → Filled v → Filled (with_leaves first count part v)
 with_leaves_filled first count part v h k =
     All-append IsFilled (take first v) (part ++ drop (first + count) v) (All-take IsFilled first v k)
     (All-append IsFilled part (drop (first + count) v) h (All-drop IsFilled (first + count) v k))

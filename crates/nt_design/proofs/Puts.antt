@@ -184,15 +184,15 @@ below (IntoPart (Some low) width ∷ path) x r new leads h is =
     ∙ ap one (part_again low width (unsigned_leaf width x.leaf.four) (places_of path (slice_get (only new).digits)) x refl)
 
 -- ---- leaves of leaves
-nothing_taken : {A : Type 0} (n : ℕ) → take {A = A} n [] ≡ []
+pub nothing_taken : {A : Type 0} (n : ℕ) → take {A = A} n [] ≡ []
 nothing_taken zero = refl
 nothing_taken (suc n) = refl
 
-nothing_dropped : {A : Type 0} (n : ℕ) → drop {A = A} n [] ≡ []
+pub nothing_dropped : {A : Type 0} (n : ℕ) → drop {A = A} n [] ≡ []
 nothing_dropped zero = refl
 nothing_dropped (suc n) = refl
 
-in_parts : {A : Type 0} (first count : ℕ) (s : List A) → take first s ++ (take count (drop first s) ++ drop (first + count) s) ≡ s
+pub in_parts : {A : Type 0} (first count : ℕ) (s : List A) → take first s ++ (take count (drop first s) ++ drop (first + count) s) ≡ s
 in_parts first count s =
     ap (λ l. take first s ++ (take count (drop first s) ++ l)) (sym (drop-drop count first s))
     ∙ (ap (λ l. take first s ++ l) (take-append-drop count (drop first s)) ∙ take-append-drop first s)
@@ -201,7 +201,7 @@ in_parts first count s =
 pub itself : (first count : ℕ) (v : Value) → with_leaves first count (leaves_at first count v) v ≡ v
 itself first count v = in_parts first count v
 
-taken_inside : {A : Type 0} (c f n : ℕ) (xs : List A) → f + c ≤ n → take c (drop f (take n xs)) ≡ take c (drop f xs)
+pub taken_inside : {A : Type 0} (c f n : ℕ) (xs : List A) → f + c ≤ n → take c (drop f (take n xs)) ≡ take c (drop f xs)
 taken_inside c f n [] low = ap (λ l. take c (drop f l)) (nothing_taken n)
 taken_inside zero zero zero (x ∷ xs) low = refl
 taken_inside zero zero (suc n) (x ∷ xs) low = refl
@@ -387,7 +387,7 @@ module _ (v : ℕ) (old new : Value) where
             part_done first (only (leaves_at first 1 old)) there x_filled path start width
             ∙ sym (ap (λ w. with_leaves first 1 w old) (ap (written (IntoPart start width ∷ path) new) there ∙ below (IntoPart start width ∷ path) (only (leaves_at first 1 old)) r new to x_filled is))
 
-whole_there : {A : Type 0} (s : List A) → leaves_at 0 (length s) s ≡ s
+pub whole_there : {A : Type 0} (s : List A) → leaves_at 0 (length s) s ≡ s
 whole_there s = ap (take (length s)) (nothing_before s) ∙ take_all (length s) s (omega arith)
   where
     nothing_before : {A : Type 0} (s : List A) → drop 0 s ≡ s

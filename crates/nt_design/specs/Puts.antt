@@ -3,6 +3,7 @@
 use Rattle.std.specs.Prelude.{◌≡◌, ◌≤◌, ℕ, zero, suc, ◌+◌, ◌-◌, ◌*◌, ◌/◌, ◌==◌, min, max, if◌then◌else◌, List, [], length, Option, Some, None, slice_get, pos, negsuc, ◌∷◌}
 use Rattle.nt_value.specs.Digits.{LeafValue}
 use Rattle.nt_value.specs.Operators.{part_of}
+use Rattle.nt_value.specs.Values.{IsValueOf, shape_of}
 use Rattle.nt_value.specs.declared.leaf.Leaf.{Leaf}
 use Rattle.nt_design.specs.Parts.{Value, only, one, leaves_at, with_leaves, with_part, Step, IntoLeaves, IntoItem, IntoPart}
 use Rattle.nt_design.specs.declared.put.Put.{Put}
@@ -86,8 +87,8 @@ put_in first low (suc n) new value =
 unfoldable pub after_put : Put → Value → Value
 after_put put value = put_in put.first put.low put.width put.value value
 
--- a write of whole leaves lies inside a variable of this shape, or one of digits inside one leaf
-abbrev pub PutInside : List Leaf → ℕ → ℕ → ℕ → List Leaf → Type 0
-PutInside shape first low zero new = leaves_at first (length new) shape ≡ new
+-- a write of whole leaves is a value of leaves inside a variable of this shape, or one of digits lies inside one leaf
+abbrev pub PutInside : List Leaf → ℕ → ℕ → ℕ → Value → Type 0
+PutInside shape first low zero new = IsValueOf (leaves_at first (length new) shape) new
 PutInside shape first low (suc n) new =
-    (leaf written : Leaf) × ((slice_get shape first ≡ Some leaf) × ((new ≡ written ∷ []) × ((written.width ≡ suc n) × (low + suc n ≤ leaf.width))))
+    (leaf written : Leaf) × ((slice_get shape first ≡ Some leaf) × ((shape_of new ≡ written ∷ []) × ((written.width ≡ suc n) × (low + suc n ≤ leaf.width))))

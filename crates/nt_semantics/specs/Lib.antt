@@ -1,7 +1,6 @@
 pub mod Execution
 pub mod Laws
 pub mod Lines
-pub mod Puts
 pub mod Rounds
 pub mod Same
 pub mod State

@@ -16,7 +16,7 @@ use Rattle.nt_semantics.specs.Execution.{if_some, enter, is_active, has_inactive
 use Rattle.nt_semantics.specs.Same.{is_same, is_listed}
 use Rattle.nt_semantics.specs.State.{Place, Ready, Inactive, Later, Waits, MachineState, is_comb, start_state, place_at, value_at, count_at, fewer}
 use Rattle.nt_semantics.specs.Step.{step, may_begin, is_some_put}
-use Rattle.nt_semantics.specs.declared.deed.Put.{Put}
+use Rattle.nt_design.specs.declared.put.Put.{Put}
 use Rattle.nt_semantics.specs.declared.event.Event.{Event}
 use Rattle.nt_semantics.specs.declared.event.Event.TheVariants.{Stmt, Assign as AssignEvent, Update, Resolve}
 use Rattle.nt_semantics.specs.declared.event.Entry.{Entry}

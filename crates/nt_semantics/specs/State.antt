@@ -23,7 +23,7 @@ use Rattle.nt_design.specs.declared.process.Proc.{Proc}
 use Rattle.nt_design.specs.declared.target.Target.{Target}
 use Rattle.nt_design.specs.declared.target.Target.TheVariants as target
 use Rattle.nt_design.specs.declared.tree.Tree.{Tree}
-use Rattle.nt_semantics.specs.declared.deed.Put.{Put}
+use Rattle.nt_design.specs.declared.put.Put.{Put}
 
 -- ---- what a procedure has to do
 -- a statement to do, or a loop that goes on: `while` and `for` with their next test, `for` with its next step, `forever`,

@@ -1,9 +1,11 @@
 -- Which states are of a design: what each step and each move keeps.
-use Rattle.std.specs.Prelude.{◌≡◌, ⊤, ℕ, zero, suc, ◌+◌, ◌≤◌, ◌<◌, true, List, [], ◌∷◌, ◌++◌, length, map, All, Contains, Some, None, slice_get}
+use Rattle.std.specs.Prelude.{◌≡◌, ⊤, ℕ, ◌≤◌, ◌<◌, true, List, [], ◌∷◌, ◌++◌, length, map, All, Contains, Some, None, slice_get}
 use Rattle.std.specs.List.{flat_map}
-use Rattle.nt_value.specs.Values.{shape_of}
+use Rattle.nt_value.specs.Digits.{IsFilled}
+use Rattle.nt_value.specs.Values.{AreValuesOf, shape_of}
 use Rattle.nt_value.specs.declared.leaf.Leaf.{Leaf}
-use Rattle.nt_design.specs.Parts.{Value, int_leaf, leaves_at}
+use Rattle.nt_design.specs.Parts.{Value, int_leaf}
+use Rattle.nt_design.specs.Puts.{PutInside}
 use Rattle.nt_design.specs.Reads.{act_calls, act_reads, act_writes, calls_of, reads_of}
 use Rattle.nt_design.specs.Rules.{act_fits}
 use Rattle.nt_design.specs.Shapes.{Scope, tree_shape, is_leaf}
@@ -20,19 +22,14 @@ use Rattle.nt_design.specs.declared.tree.Tree.{Tree}
 use Rattle.nt_semantics.specs.Rounds.{var_in, used_by_proc}
 use Rattle.nt_semantics.specs.State.{Item, Do, Testing, Stepping, Repeating, Counting, Each, Awaiting, Place, Unbegun, Ready, Inactive, Later, Waits, Over, MachineState, place_at, items_at, net_shape, var_shape}
 use Rattle.nt_semantics.specs.Step.{copies_of}
-use Rattle.nt_semantics.specs.declared.deed.Put.{Put}
+use Rattle.nt_design.specs.declared.put.Put.{Put}
 use Rattle.nt_semantics.specs.declared.event.Event.{Event}
 
 -- ---- writes
--- a write of whole leaves lies inside a variable of this shape, or one of digits inside one leaf
-abbrev pub PutInside : List Leaf → ℕ → ℕ → ℕ → List Leaf → Type 0
-PutInside shape first low zero new = leaves_at first (length new) shape ≡ new
-PutInside shape first low (suc n) new =
-    (leaf written : Leaf) × ((slice_get shape first ≡ Some leaf) × ((new ≡ written ∷ []) × ((written.width ≡ suc n) × (low + suc n ≤ leaf.width))))
-
+-- a write lies inside its variable
 abbrev pub PutFits : Design → Put → Type 0
 PutFits d put =
-    (put.var < length d.vars) × PutInside (var_shape d put.var) put.first put.low put.width (shape_of put.value)
+    (put.var < length d.vars) × PutInside (var_shape d put.var) put.first put.low put.width put.value
 
 -- ---- what a procedure has to do
 -- the statements in an item
@@ -122,14 +119,15 @@ slot_shape d (target.Slot n slot low width) = net_shape d n
 slot_shape d (target.Var v path) = []
 slot_shape d (target.Local i path) = []
 
--- a state of this design: values of the right leaves, an item for each in each column, and procedures and updates that fit
+-- a state of this design: values of the right shapes, an item for each in each column, and procedures and updates that fit
 pub record IsStateOf (d : Design) (s : MachineState) : Type 0 where
-  pub vars : map shape_of s.vars ≡ var_shapes d
-  pub nets : map shape_of s.nets ≡ net_shapes d
-  pub slots : map shape_of s.slots ≡ map (λ (assign : Assign). slot_shape d assign.target) d.assigns
+  pub vars : AreValuesOf (var_shapes d) s.vars
+  pub nets : AreValuesOf (net_shapes d) s.nets
+  pub slots : AreValuesOf (map (λ (assign : Assign). slot_shape d assign.target) d.assigns) s.slots
   pub places : length s.places ≡ length d.procs
   pub items : length s.items ≡ length d.procs
   pub locals : map (map shape_of) s.locals ≡ map (λ (p : Proc). p.locals) d.procs
+  pub locals_filled : All (All (All IsFilled)) s.locals
   pub fresh : length s.fresh ≡ length d.procs
   pub evaluations : length s.evaluations ≡ length d.assigns
   pub resolutions : length s.resolutions ≡ length d.nets

@@ -16,12 +16,12 @@ use Rattle.nt_design.specs.declared.object.Object.TheVariants as object
 use Rattle.nt_design.specs.declared.process.Assign.{Assign}
 use Rattle.nt_design.specs.declared.target.Target.{Target}
 use Rattle.nt_design.specs.declared.target.Target.TheVariants as target
-use Rattle.nt_semantics.specs.Puts.{after_put, leaves_put}
+use Rattle.nt_design.specs.Puts.{after_put, leaves_put}
 use Rattle.nt_semantics.specs.Same.{is_same, is_listed}
 use Rattle.nt_semantics.specs.State.{Item, Place, Unbegun, Ready, Inactive, Later, Waits, Over, MachineState, going_on, place_at, items_at, locals_at, count_at, value_at, net_shape, more, fewer, world_of, z_value}
 use Rattle.nt_semantics.specs.Statements.{item_step}
 use Rattle.nt_semantics.specs.Wake.{wake, calls_of}
-use Rattle.nt_semantics.specs.declared.deed.Put.{Put}
+use Rattle.nt_design.specs.declared.put.Put.{Put}
 use Rattle.nt_semantics.specs.declared.deed.Deed.{Deed}
 use Rattle.nt_semantics.specs.declared.deed.Deed.TheVariants as deed
 use Rattle.nt_semantics.specs.declared.event.Event.{Event}

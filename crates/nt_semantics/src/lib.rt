@@ -7,10 +7,11 @@ mod event;
 mod laws;
 mod moved;
 
-pub use deed::{Deed, Put};
+pub use deed::Deed;
 pub use event::{Entry, Event, Order};
 pub use laws::{
     again_changes_nothing, execution_fits, move_fills, move_keeps, move_stays, only_pending,
     orders_are_permutations, round_leads, start_fits, step_keeps,
 };
 pub use moved::Moved;
+pub use nt_design::Put;

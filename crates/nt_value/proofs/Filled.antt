@@ -97,7 +97,7 @@ pairwise_long f [] es h = refl
 pairwise_long f (d ∷ ds) [] h = absurd (omega (arith, h))
 pairwise_long f (d ∷ ds) (e ∷ es) h = ap suc (pairwise_long f ds es (omega (arith, h)))
 
-pairwise_filled : (f : Digit → Digit → Digit) (a b : LeafValue) → IsFilled a → IsFilled b → a.leaf ≡ b.leaf → IsFilled (in_leaf a.leaf (pairwise f a.digits b.digits))
+pub pairwise_filled : (f : Digit → Digit → Digit) (a b : LeafValue) → IsFilled a → IsFilled b → a.leaf ≡ b.leaf → IsFilled (in_leaf a.leaf (pairwise f a.digits b.digits))
 pairwise_filled f a b h k same =
     in_filled a.leaf (pairwise f a.digits b.digits)
     (pairwise_long f a.digits b.digits (h.long ∙ (ap (λ (l : Leaf). l.width) same ∙ sym k.long)) ∙ h.long)
