@@ -66,7 +66,7 @@ word_of_number w (negsuc m) =
     }
 
 -- ---- results
-length-binary : (w n : ℕ) → length (binary w n) ≡ w
+pub length-binary : (w n : ℕ) → length (binary w n) ≡ w
 length-binary zero n = refl
 length-binary (suc w) n = ap (λ k. suc k) (length-binary w (n / 2))
 

@@ -7,7 +7,7 @@ use Rattle.nt_value.specs.declared.bits.Bits.TheInside.{Inside}
 use Rattle.nt_value.specs.declared.digit.Digit.{Digit}
 use Rattle.nt_value.specs.declared.digit.Digit.TheVariants.{Zero, One, X, Z}
 use Rattle.nt_value.specs.Digits.{LeafValue, is_known, all_known, is_one}
-use Rattle.nt_value.specs.Logic.{and_digit, or_digit, xor_digit, joined, any_one, truth_of}
+use Rattle.nt_value.specs.Logic.{and_digit, or_digit, xor_digit, reduced, any_one, truth_of}
 use Rattle.nt_value.specs.Stored.{digit_of, digits_of, at_bit, halved, seen_bits, IsStored}
 use Rattle.nt_value.proofs.Bitwise.{or_half, or_low, ones_low, ones_half}
 use Rattle.nt_value.proofs.Truths.{equal_step}
@@ -29,7 +29,7 @@ and_more v u true false =
 and_more v u false t =
     at_bits (λ a b. and_digit (digit_of a b) Zero ≡ and_join (nat_eq (max a b) 1 && false) (nat_eq b 0 && t)) refl refl refl refl v u
 
-joined_and : (n v u : ℕ) → v < 2 ^ n → u < 2 ^ n → joined and_digit One (digits_of n v u) ≡ and_join (nat_eq (bit_or v u) (2 ^ n - 1)) (nat_eq u 0)
+joined_and : (n v u : ℕ) → v < 2 ^ n → u < 2 ^ n → reduced and_digit One (digits_of n v u) ≡ and_join (nat_eq (bit_or v u) (2 ^ n - 1)) (nat_eq u 0)
 unfolding digits_of
 joined_and zero v u hv hu =
     let ev : v ≡ 0 = omega arith in
@@ -39,9 +39,9 @@ joined_and (suc n) v u hv hu =
     rw (equal_step (bit_or v u) (2 ^ suc n - 1), ones_low n, ones_half n, or_low v u, or_half v u, equal_step u 0, joined_and n (v / 2) (u / 2) (halved n v hv) (halved n u hu))
     (and_more v u (nat_eq (bit_or (v / 2) (u / 2)) (2 ^ n - 1)) (nat_eq (u / 2) 0))
 
-pub seen_joined_and : (a : Inside) (p : LeafValue) → seen_bits a ≡ p → IsStored a → joined and_digit One p.digits ≡ (if nat_eq (bit_or a.ones a.unknown) (2 ^ a.leaf.width - 1) then (if nat_eq a.unknown 0 then One else X) else Zero)
+pub seen_joined_and : (a : Inside) (p : LeafValue) → seen_bits a ≡ p → IsStored a → reduced and_digit One p.digits ≡ (if nat_eq (bit_or a.ones a.unknown) (2 ^ a.leaf.width - 1) then (if nat_eq a.unknown 0 then One else X) else Zero)
 seen_joined_and a p ea s =
-    sym (ap (λ (x : LeafValue). joined and_digit One x.digits) ea) ∙ joined_and a.leaf.width a.ones a.unknown s.ones s.unknown
+    sym (ap (λ (x : LeafValue). reduced and_digit One x.digits) ea) ∙ joined_and a.leaf.width a.ones a.unknown s.ones s.unknown
 
 -- ---- by `|`
 or_more : (d : Digit) (s t : Bool) → or_digit d (if s then One else (if t then Zero else X)) ≡ (if is_one d || s then One else (if is_known d && t then Zero else X))
@@ -56,7 +56,7 @@ or_more Z true t = refl
 or_more Z false true = refl
 or_more Z false false = refl
 
-pub joined_or : (ds : List Digit) → joined or_digit Zero ds ≡ truth_of ds
+pub joined_or : (ds : List Digit) → reduced or_digit Zero ds ≡ truth_of ds
 joined_or [] = refl
 joined_or (d ∷ ds) = ap (or_digit d) (joined_or ds) ∙ or_more d (any_one ds) (all_known ds)
 
@@ -73,7 +73,7 @@ xor_more v u k true =
 xor_more v u k false =
     at_bits (λ a b. xor_digit (digit_of a b) X ≡ xor_join (nat_eq b 0 && false) (nat_eq ((a + k % 2) % 2) 0)) refl refl refl refl v u
 
-joined_xor : (n v u : ℕ) → v < 2 ^ n → u < 2 ^ n → joined xor_digit Zero (digits_of n v u) ≡ xor_join (nat_eq u 0) (nat_eq (ones v % 2) 0)
+joined_xor : (n v u : ℕ) → v < 2 ^ n → u < 2 ^ n → reduced xor_digit Zero (digits_of n v u) ≡ xor_join (nat_eq u 0) (nat_eq (ones v % 2) 0)
 unfolding digits_of ones
 joined_xor zero v u hv hu =
     let ev : v ≡ 0 = omega arith in
@@ -84,6 +84,6 @@ joined_xor (suc n) v u hv hu =
     rw (parity, equal_step u 0, joined_xor n (v / 2) (u / 2) (halved n v hv) (halved n u hu))
     (xor_more v u (ones (v / 2)) (nat_eq (u / 2) 0))
 
-pub seen_joined_xor : (a : Inside) (p : LeafValue) → seen_bits a ≡ p → IsStored a → joined xor_digit Zero p.digits ≡ (if nat_eq a.unknown 0 then (if nat_eq (count_ones a.ones % 2) 0 then Zero else One) else X)
+pub seen_joined_xor : (a : Inside) (p : LeafValue) → seen_bits a ≡ p → IsStored a → reduced xor_digit Zero p.digits ≡ (if nat_eq a.unknown 0 then (if nat_eq (count_ones a.ones % 2) 0 then Zero else One) else X)
 seen_joined_xor a p ea s =
-    sym (ap (λ (x : LeafValue). joined xor_digit Zero x.digits) ea) ∙ joined_xor a.leaf.width a.ones a.unknown s.ones s.unknown
+    sym (ap (λ (x : LeafValue). reduced xor_digit Zero x.digits) ea) ∙ joined_xor a.leaf.width a.ones a.unknown s.ones s.unknown

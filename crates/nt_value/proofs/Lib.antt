@@ -1,5 +1,6 @@
 pub mod Bitwise
 pub mod Congruence
+pub mod Filled
 pub mod Flips
 pub mod Joins
 pub mod Modular

@@ -3,8 +3,8 @@ use Rattle.std.proofs.Common.{◌≡◌, ℕ, zero, suc, ◌+◌, ◌≤◌, Lis
 use Rattle.std.specs.Prelude.{if◌then◌else◌}
 use Rattle.std.proofs.lemmas.Bool.{false≢true, true≢false}
 use Rattle.nt_value.specs.Arithmetic.{padded, fill_of}
-use Rattle.nt_value.specs.Digits.{LeafValue, is_known, all_known}
-use Rattle.nt_value.specs.Laws.{IsFilled, XnorIsNotXor, ResizeReturns, PartsOfConcat}
+use Rattle.nt_value.specs.Digits.{LeafValue, IsFilled, is_known, all_known}
+use Rattle.nt_value.specs.Laws.{XnorIsNotXor, ResizeReturns, PartsOfConcat}
 use Rattle.nt_value.specs.Logic.{not_digit, pairwise, xor_digit, xnor_digit}
 use Rattle.nt_value.specs.Operators.{in_leaf, two_state, resize_of, unary_of, binary_of}
 use Rattle.nt_value.specs.declared.operator.Binary.TheVariants.{Xor, Xnor}
@@ -28,7 +28,7 @@ known_digit One h = refl
 known_digit X h = absurd (false≢true h)
 known_digit Z h = absurd (false≢true h)
 
-known_digits : (ds : List Digit) → all_known ds ≡ true → map two_state ds ≡ ds
+pub known_digits : (ds : List Digit) → all_known ds ≡ true → map two_state ds ≡ ds
 known_digits [] h = refl
 known_digits (d ∷ ds) h =
     rw (known_digit d (known_left _ _ h)) (ap (λ (es : List Digit). d ∷ es) (known_digits ds (known_right _ _ h)))

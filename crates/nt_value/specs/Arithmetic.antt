@@ -8,8 +8,8 @@ use Rattle.nt_value.specs.declared.digit.Digit.TheVariants.{Zero, X}
 
 -- the number that known digits write, in two's complement where they are signed
 -- (IEEE 1800-2017, 6.11.3, 11.4.3)
-abbrev pub value_of : Bool → List Digit → ℤ
-value_of signed ds =
+abbrev pub integer_of : Bool → List Digit → ℤ
+integer_of signed ds =
     if signed && is_top_one ds
     then neg_ℤ (pos (2 ^ length ds - number_of ds))
     else pos (number_of ds)

@@ -1,5 +1,5 @@
 -- Leaves and their digits, the least significant first.
-use Rattle.std.specs.Prelude.{◌≡◌, ℕ, ◌+◌, ◌*◌, ◌≤◌, Bool, true, false, ◌&&◌, List, [], ◌∷◌}
+use Rattle.std.specs.Prelude.{◌≡◌, ℕ, ◌+◌, ◌*◌, ◌==◌, ◌≤◌, Bool, true, false, ◌&&◌, ◌||◌, List, [], ◌∷◌, length}
 use Rattle.nt_value.specs.declared.digit.Digit.{Digit}
 use Rattle.nt_value.specs.declared.digit.Digit.TheVariants.{Zero, One, X, Z}
 use Rattle.nt_value.specs.declared.leaf.Leaf.{Leaf}
@@ -28,6 +28,20 @@ all_known (d ∷ ds) = is_known d && all_known ds
 -- a leaf of two states has 0 and 1 alone (IEEE 1800-2017, 6.11.2)
 abbrev pub IsDigitOf : Leaf → Digit → Type 0
 IsDigitOf leaf digit = leaf.four ≡ false → is_known digit ≡ true
+
+-- a leaf has as many digits as it is wide, and in two states 0 and 1 alone (IEEE 1800-2017, 6.3.1, 6.11.2)
+pub record IsFilled (a : LeafValue) : Type 0 where
+  pub long : length a.digits ≡ a.leaf.width
+  pub two : a.leaf.four ≡ false → all_known a.digits ≡ true
+
+-- the same as a test
+abbrev pub is_filled : LeafValue → Bool
+is_filled a = length a.digits == a.leaf.width && (a.leaf.four || all_known a.digits)
+
+-- so it is of each leaf of a value
+abbrev pub are_filled : List LeafValue → Bool
+are_filled [] = true
+are_filled (a ∷ leaves) = is_filled a && are_filled leaves
 
 -- 1 for a 1, and 0 for all else
 abbrev pub one_of : Digit → ℕ

@@ -1,6 +1,6 @@
 -- Laws of the operators.
 use Rattle.std.specs.Prelude.{◌≡◌, ◌<◌, ◌≤◌, ◌^◌, ℕ, true, false, length, ℤ, pos, ◌+ℤ◌, ◌-ℤ◌, ◌*ℤ◌}
-use Rattle.nt_value.specs.Digits.{LeafValue, all_known, number_of}
+use Rattle.nt_value.specs.Digits.{LeafValue, IsFilled, all_known, number_of}
 use Rattle.nt_value.specs.Operators.{binary_of, unary_of, concat_of, number, part_of, resize_of}
 use Rattle.nt_value.specs.declared.operator.Binary.TheVariants.{Add, Sub, Mul, Div, Rem, Xor, Xnor}
 use Rattle.nt_value.specs.declared.operator.Unary.TheVariants.{Not}
@@ -38,11 +38,6 @@ MultiplicationIsModular =
 abbrev pub DivisionRestores : Type 0
 DivisionRestores =
     (a b : LeafValue) → AreKnown a b → 0 < number_of b.digits → binary_of Add (binary_of Mul (binary_of Div a b) b) (binary_of Rem a b) ≡ a
-
--- as many digits as the leaf is wide, and in a leaf of two states 0 and 1 alone
-pub record IsFilled (a : LeafValue) : Type 0 where
-  pub long : length a.digits ≡ a.leaf.width
-  pub two : a.leaf.four ≡ false → all_known a.digits ≡ true
 
 -- `~^` is `~` of `^`
 abbrev pub XnorIsNotXor : Type 0

@@ -60,8 +60,8 @@ xor_digit Z b = X
 abbrev pub xnor_digit : Digit → Digit → Digit
 xnor_digit a b = not_digit (xor_digit a b)
 
--- `?:` of two digits on an unknown test: equal known digits stay, all else is x
--- (IEEE 1800-2017, 11.4.11)
+-- `?:` of two digits on an unknown test: equal known digits stay, all else is x (IEEE 1800-2017, 11.4.11; that z and z
+-- is x is this project's rule)
 abbrev pub merge_digit : Digit → Digit → Digit
 merge_digit Zero Zero = Zero
 merge_digit Zero One = X
@@ -93,10 +93,10 @@ pairwise f [] bs = []
 pairwise f (a ∷ as') [] = []
 pairwise f (a ∷ as') (b ∷ bs) = f a b ∷ pairwise f as' bs
 
--- all digits joined by an operator, from a start (IEEE 1800-2017, 11.4.9)
-abbrev pub joined : (Digit → Digit → Digit) → Digit → List Digit → Digit
-joined f start [] = start
-joined f start (d ∷ ds) = f d (joined f start ds)
+-- all digits reduced by an operator, from a start (IEEE 1800-2017, 11.4.9)
+abbrev pub reduced : (Digit → Digit → Digit) → Digit → List Digit → Digit
+reduced f start [] = start
+reduced f start (d ∷ ds) = f d (reduced f start ds)
 
 -- some digit is 1
 abbrev pub any_one : List Digit → Bool

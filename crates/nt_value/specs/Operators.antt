@@ -1,9 +1,10 @@
 -- The operators on leaves, by the rules of their digits. Operands of two states have 0 and 1 alone, and so has a result
--- of two states: what would be x in it is 0.
+-- of two states: what would be x in it is 0 (IEEE 1800-2017, 6.3.1; that a result of operands of two states has two
+-- states is this project's rule).
 use Rattle.std.specs.Prelude.{◌≡◌, ℕ, ◌+◌, ◌==◌, Bool, true, false, not, ◌&&◌, ◌||◌, if◌then◌else◌, List, [], ◌∷◌, ◌++◌, map, replicate, take, drop, ℤ, neg_ℤ, ◌+ℤ◌, ◌-ℤ◌, ◌*ℤ◌, int_lt, int_le, int_div, int_rem}
-use Rattle.nt_value.specs.Arithmetic.{value_of, digits_or_x, padded, fill_of, moved_up, moved_down}
+use Rattle.nt_value.specs.Arithmetic.{integer_of, digits_or_x, padded, fill_of, moved_up, moved_down}
 use Rattle.nt_value.specs.Digits.{LeafValue, all_known, number_of}
-use Rattle.nt_value.specs.Logic.{not_digit, and_digit, or_digit, xor_digit, xnor_digit, merge_digit, wire_digit, pairwise, joined, digit_if, truth_of, equal_of, is_same_digits}
+use Rattle.nt_value.specs.Logic.{not_digit, and_digit, or_digit, xor_digit, xnor_digit, merge_digit, wire_digit, pairwise, reduced, digit_if, truth_of, equal_of, is_same_digits}
 use Rattle.nt_value.specs.declared.digit.Digit.{Digit}
 use Rattle.nt_value.specs.declared.digit.Digit.TheVariants.{Zero, One, X, Z}
 use Rattle.nt_value.specs.declared.leaf.Leaf.{Leaf}
@@ -27,14 +28,14 @@ in_leaf leaf ds = record { leaf = leaf; digits = if leaf.four then ds else map t
 abbrev pub unsigned_leaf : ℕ → Bool → Leaf
 unsigned_leaf width four = record { width = width; signed = false; four = four }
 
--- one digit, unsigned: what comparisons, logical operators and reductions answer
--- (IEEE 1800-2017, 11.4.4 to 11.4.7, 11.4.9)
+-- one digit, unsigned: what comparisons, logical operators and reductions answer (IEEE 1800-2017, 11.4.4 to 11.4.7,
+-- 11.4.9; that the answers of logical operators and reductions are unsigned is this project's rule)
 abbrev pub one_digit : Bool → Digit → LeafValue
 one_digit four d = in_leaf (unsigned_leaf 1 four) (d ∷ [])
 
 -- the number that a leaf with known digits writes
 abbrev pub number : LeafValue → ℤ
-number a = value_of a.leaf.signed a.digits
+number a = integer_of a.leaf.signed a.digits
 
 -- a whole number in a leaf, or all x where there is none (IEEE 1800-2017, 11.4.3)
 abbrev pub calculated : Leaf → Bool → ℤ → LeafValue
@@ -66,12 +67,12 @@ unary_of Plus a = calculated a.leaf (all_known a.digits) (number a)
 unary_of Minus a = calculated a.leaf (all_known a.digits) (neg_ℤ (number a))
 unary_of Not a = in_leaf a.leaf (map not_digit a.digits)
 unary_of LogicalNot a = one_digit a.leaf.four (not_digit (truth_of a.digits))
-unary_of RedAnd a = one_digit a.leaf.four (joined and_digit One a.digits)
-unary_of RedNand a = one_digit a.leaf.four (not_digit (joined and_digit One a.digits))
-unary_of RedOr a = one_digit a.leaf.four (joined or_digit Zero a.digits)
-unary_of RedNor a = one_digit a.leaf.four (not_digit (joined or_digit Zero a.digits))
-unary_of RedXor a = one_digit a.leaf.four (joined xor_digit Zero a.digits)
-unary_of RedXnor a = one_digit a.leaf.four (not_digit (joined xor_digit Zero a.digits))
+unary_of RedAnd a = one_digit a.leaf.four (reduced and_digit One a.digits)
+unary_of RedNand a = one_digit a.leaf.four (not_digit (reduced and_digit One a.digits))
+unary_of RedOr a = one_digit a.leaf.four (reduced or_digit Zero a.digits)
+unary_of RedNor a = one_digit a.leaf.four (not_digit (reduced or_digit Zero a.digits))
+unary_of RedXor a = one_digit a.leaf.four (reduced xor_digit Zero a.digits)
+unary_of RedXnor a = one_digit a.leaf.four (not_digit (reduced xor_digit Zero a.digits))
 
 -- the operators of two operands
 abbrev pub binary_of : Binary → LeafValue → LeafValue → LeafValue

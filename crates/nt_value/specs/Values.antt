@@ -1,6 +1,6 @@
 -- Values and their defaults.
-use Rattle.std.specs.Prelude.{ℕ, ◌/◌, ◌%◌, ◌==◌, zero, suc, if◌then◌else◌, List, [], ◌∷◌, replicate, map}
-use Rattle.nt_value.specs.Digits.{LeafValue}
+use Rattle.std.specs.Prelude.{◌≡◌, ◌≤◌, ℕ, ◌/◌, ◌%◌, ◌==◌, zero, suc, if◌then◌else◌, List, [], ◌∷◌, replicate, map, length, All}
+use Rattle.nt_value.specs.Digits.{LeafValue, IsFilled}
 use Rattle.nt_value.specs.declared.digit.Digit.{Digit}
 use Rattle.nt_value.specs.declared.digit.Digit.TheVariants.{Zero, One, X}
 use Rattle.nt_value.specs.declared.leaf.Leaf.{Leaf}
@@ -25,3 +25,18 @@ default_value shape = map default_leaf shape
 -- the leaves of a value
 abbrev pub shape_of : List LeafValue → List Leaf
 shape_of value = map (λ v. v.leaf) value
+
+-- a value: at most 64 leaves, this project's limit, each with its digits
+pub record IsValue (leaves : List LeafValue) : Type 0 where
+  pub within : length leaves ≤ 64
+  pub filled : All IsFilled leaves
+
+-- a value of a type: the type's leaves, each with its digits
+pub record IsValueOf (shape : List Leaf) (value : List LeafValue) : Type 0 where
+  pub leaves : shape_of value ≡ shape
+  pub filled : All IsFilled value
+
+-- values of types, one each
+pub record AreValuesOf (shapes : List (List Leaf)) (values : List (List LeafValue)) : Type 0 where
+  pub leaves : map shape_of values ≡ shapes
+  pub filled : All (All IsFilled) values

@@ -1,7 +1,7 @@
 // The digits of one leaf, in two words.
 ghost use Rattle.std.specs.Prelude.{◌≡◌, ◌+◌, ◌-◌, ◌*◌, ◌<◌, ◌≤◌, ◌^◌, ◌↔◌, IsTrue, Some, false, length, slice_get, slice_set, true};
 ghost use Rattle.nt_value.specs.Changes.{with_bit_at};
-ghost use Rattle.nt_value.specs.Digits.{IsDigitOf, IsLeaf, all_known, is_top_one, number_of};
+ghost use Rattle.nt_value.specs.Digits.{IsDigitOf, IsFilled, IsLeaf, all_known, is_top_one, number_of};
 ghost use Rattle.nt_value.specs.Values.{binary, default_leaf, zero_leaf};
 
 use crate::{Digit, Leaf};
@@ -148,6 +148,14 @@ impl Bits {
             return false;
         }
         self.unknown == other.unknown
+    }
+
+    /// Does nothing. It says that there are as many digits as the leaf is wide, and in two states 0 and 1 alone.
+    pub fn has_digits(self)
+        ensures { IsFilled self }
+    {
+        let _width = self.width();
+        let _known = self.is_known();
     }
 
     /// Whether no digit is x or z.

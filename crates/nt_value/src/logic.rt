@@ -1,7 +1,7 @@
 // Operators on the digits at the same place, and what all digits of a leaf together answer.
 ghost use Rattle.std.specs.Prelude.{◌≡◌, ◌<◌, ◌^◌};
 ghost use Rattle.nt_value.specs.Digits.{IsLeaf};
-ghost use Rattle.nt_value.specs.Logic.{and_digit, equal_of, is_same_digits as same_digits, joined, merge_digit, or_digit, pairwise, truth_of, xor_digit};
+ghost use Rattle.nt_value.specs.Logic.{and_digit, equal_of, is_same_digits as same_digits, reduced, merge_digit, or_digit, pairwise, truth_of, xor_digit};
 ghost use Rattle.nt_value.specs.Operators.{binary_of, in_leaf, merge_of, one_digit as one_digit_of, unary_of, wire_of};
 ghost use Rattle.nt_value.specs.Stored.{digits_of};
 ghost use Rattle.nt_value.specs.declared.digit.Digit.TheVariants.{One, Zero};
@@ -171,7 +171,7 @@ impl Bits {
 
     // All digits joined by `&`.
     pub(crate) fn reduce_and(self) -> Digit
-        ensures { result ≡ joined and_digit One self.digits }
+        ensures { result ≡ reduced and_digit One self.digits }
     {
         if self.ones | self.unknown != low_ones(self.leaf.width) {
             return Digit::Zero;
@@ -184,14 +184,14 @@ impl Bits {
 
     // All digits joined by `|`.
     pub(crate) fn reduce_or(self) -> Digit
-        ensures { result ≡ joined or_digit Zero self.digits }
+        ensures { result ≡ reduced or_digit Zero self.digits }
     {
         truth(self)
     }
 
     // All digits joined by `^`.
     pub(crate) fn reduce_xor(self) -> Digit
-        ensures { result ≡ joined xor_digit Zero self.digits }
+        ensures { result ≡ reduced xor_digit Zero self.digits }
     {
         if self.unknown != 0 {
             return Digit::X;

@@ -1,6 +1,6 @@
 // Shapes and values, as lists of leaves.
 ghost use Rattle.std.specs.Prelude.{◌≡◌, ◌≤◌, ◌<◌, ◌↔◌, All, IsTrue, IfOk, length, slice_get, slice_set, Some};
-ghost use Rattle.nt_value.specs.Digits.{IsLeaf};
+ghost use Rattle.nt_value.specs.Digits.{IsFilled, IsLeaf};
 ghost use Rattle.nt_value.specs.Values.{default_value, shape_of};
 
 use crate::{Bits, Leaf};
@@ -54,21 +54,23 @@ impl Shape {
     }
 }
 
-/// The leaves of a value in order with their digits, at most 64.
+/// The leaves of a value in order with their digits, at most 64. Each leaf has as many digits as it is wide, and 0 and 1
+/// alone where it has two states.
 #[derive(Debug, Drop)]
 pub struct Value {
     leaves: Vec<Bits>,
 }
 
 impl Model for Value {
-    ghost use Rattle.std.specs.Prelude.{List, length, ◌≤◌};
+    ghost use Rattle.std.specs.Prelude.{List};
     ghost use Rattle.nt_value.specs.Digits.{LeafValue};
+    ghost use Rattle.nt_value.specs.Values.{IsValue};
 
     ghost Value = { List LeafValue };
 
     ghost view = { λ v. v.leaves.items };
 
-    ghost invariant = { λ v. length v.leaves.items ≤ 64 };
+    ghost invariant = { λ v. IsValue v.leaves.items };
 }
 
 impl Value {
@@ -77,6 +79,9 @@ impl Value {
         requires { length leaves.items ≤ 64 }
         ensures { result ≡ leaves.items }
     {
+        for bits in &leaves {
+            bits.has_digits();
+        }
         Value { leaves }
     }
 
@@ -84,6 +89,7 @@ impl Value {
     pub fn items(&self) -> &[Bits]
         ensures value { result.now ≡ self.now }
         ensures within { length self.now ≤ 64 }
+        ensures filled { All IsFilled self.now }
     {
         &self.leaves
     }
@@ -103,6 +109,7 @@ impl Value {
         ensures value { self.new ≡ slice_set self.old at bits }
         ensures shape { shape_of self.new ≡ shape_of self.old }
     {
+        bits.has_digits();
         self.leaves[at as usize] = bits;
     }
 }
@@ -115,7 +122,7 @@ pub fn default_of(alloc: Global, shape: &Shape) -> Result<Value, AllocError>
     for leaf in &shape.leaves {
         leaves.push(Bits::default(*leaf))?;
     }
-    Ok(Value { leaves })
+    Ok(Value::new(leaves))
 }
 
 /// An equal value.
