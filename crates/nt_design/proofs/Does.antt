@@ -2,19 +2,22 @@
 use Rattle.std.proofs.Common.{◌≡◌, ℕ, zero, suc, List, [], ◌∷◌, map, length, refl, ap, sym, subst, ◌∙◌}
 use Rattle.std.specs.Prelude.{◌+◌, nat_le, All, Bool, true, ◌&&◌, if◌then◌else◌, Option, Some, None, get_or, slice_get, slice_set}
 use Rattle.std.specs.List.{list_all}
+use Rattle.std.proofs.Math.ListN.{get_or-map}
+use Rattle.std.proofs.lemmas.Option.{get_or_from_slice_get}
 use Rattle.std.proofs.lemmas.Bool.{and_parts, leb-true}
-use Rattle.std.proofs.lemmas.List.Elements.{All-head, All-tail}
+use Rattle.std.proofs.lemmas.List.Elements.{All-cons, All-head, All-tail}
 use Rattle.nt_value.specs.Operators.{unsigned_leaf}
-use Rattle.nt_value.specs.Values.{shape_of}
+use Rattle.nt_value.specs.Values.{AreValuesOf, IsValueOf, shape_of}
 use Rattle.nt_value.specs.declared.leaf.Leaf.{Leaf}
+use Rattle.nt_design.proofs.Filled.{Filled, all_at, int_filled, none_filled}
 use Rattle.nt_design.proofs.Shaped.{false_is, gives_if, gives_one, gives_pick, gives_then, is_shape_back, nothing_there, on_leaf_back, on_shape_back, position_in, shaped, some_back, where_so_back}
-use Rattle.nt_design.proofs.Writes.{Into, Leads, written_has}
+use Rattle.nt_design.proofs.Writes.{written_is}
 use Rattle.nt_design.specs.Expressions.{World, Calls, value_of, values_of}
-use Rattle.nt_design.specs.Fitting.{Gives, LocalsFit, HasShapes}
+use Rattle.nt_design.specs.Fitting.{Gives, HasShapes, Into, Leads, LocalsFit}
 use Rattle.nt_design.specs.Parts.{Value, number_in, test_of, position_of, IntoItem, IntoPart, written, int_leaf, int_value, leaves_at}
 use Rattle.nt_design.specs.Rules.{act_fits, arm_fits, bounds_fit, fits_step, return_fits}
-use Rattle.nt_design.specs.Shapes.{Scope, Shaped, tree_shape, target_shape, path_shape, pick_shape, item_shape, part_shape, on_leaf, on_shape, where_so, may_go_on, is_both, is_shape, is_leaf, is_width}
-use Rattle.nt_design.specs.Statements.{Doing, nothing, on_next, one_then, block, step_of, path_of, set_local, assign, after_body, iterate, loop_of, loop, repeat_of, count_of, each_of, indices_of, always, or_nothing, is_among, first_arm, return_of, act_step, does, do_all}
+use Rattle.nt_design.specs.Shapes.{Scope, Shaped, tree_shape, target_shape, path_shape, pick_shape, item_shape, part_shape, on_leaf, on_shape, where_so, is_both, is_shape, is_leaf, is_width}
+use Rattle.nt_design.specs.Statements.{Doing, nothing, on_next, one_then, block, step_of, path_of, set_local, assign, after_body, iterate, loop_of, loop, repeat_of, count_of, each_of, indices_of, always, or_nothing, is_among, first_arm, set_name, return_of, act_step, does, do_all}
 use Rattle.nt_design.specs.Turns.{Timed, Timing, and_then, spend, pick, by_one}
 use Rattle.nt_design.specs.declared.act.Act.{Act}
 use Rattle.nt_design.specs.declared.act.Act.TheViews.{roll-Act}
@@ -44,22 +47,46 @@ is_both_back (Some s) b h = (s, refl, is_shape_back b s h)
 
 -- ---- locals
 -- locals of a scope have their shapes
-pub locals_fit : (shapes : List (List Leaf)) (locals : List Value) → map shape_of locals ≡ shapes → (i : ℕ) (s : List Leaf) → slice_get shapes i ≡ Some s → shape_of (get_or locals i []) ≡ s
-locals_fit shapes locals h i s at = of_locals locals i (ap (λ l. slice_get l i) h ∙ at)
+pub locals_fit : (shapes : List (List Leaf)) (locals : List Value) → AreValuesOf shapes locals → (i : ℕ) (s : List Leaf) → slice_get shapes i ≡ Some s → IsValueOf s (get_or locals i [])
+locals_fit shapes locals h i s at = record {
+  leaves = of_locals locals i (ap (λ l. slice_get l i) h.leaves ∙ at);
+  filled = all_at Filled locals i [] none_filled h.filled;
+}
   where
     of_locals : (locals : List Value) (i : ℕ) → slice_get (map shape_of locals) i ≡ Some s → shape_of (get_or locals i []) ≡ s
     of_locals [] i at = nothing_there s at
     of_locals (v ∷ locals) zero at = some_back (shape_of v) s at
     of_locals (v ∷ locals) (suc i) at = of_locals locals i at
 
--- a local that takes a value of its leaves
-pub set_kept : (shapes : List (List Leaf)) (locals : List Value) (i : ℕ) (v : Value) → map shape_of locals ≡ shapes → ((s : List Leaf) → slice_get shapes i ≡ Some s → shape_of v ≡ s) → map shape_of (slice_set locals i v) ≡ shapes
-set_kept shapes locals i v h has = of_locals locals i (λ s at. has s (ap (λ l. slice_get l i) (sym h) ∙ at)) ∙ h
+-- a local that takes a value of its shape
+pub set_kept : (shapes : List (List Leaf)) (locals : List Value) (i : ℕ) (v : Value) → AreValuesOf shapes locals → ((s : List Leaf) → slice_get shapes i ≡ Some s → IsValueOf s v) → AreValuesOf shapes (slice_set locals i v)
+set_kept shapes locals i v h has = record {
+  leaves = of_locals locals i (λ s at. (has s (ap (λ l. slice_get l i) (sym h.leaves) ∙ at)).leaves) ∙ h.leaves;
+  filled = of_digits locals i h.filled (λ s at. (has s (ap (λ l. slice_get l i) (sym h.leaves) ∙ at)).filled);
+}
   where
     of_locals : (locals : List Value) (i : ℕ) → ((s : List Leaf) → slice_get (map shape_of locals) i ≡ Some s → shape_of v ≡ s) → map shape_of (slice_set locals i v) ≡ map shape_of locals
     of_locals [] i has = refl
     of_locals (w ∷ locals) zero has = ap (λ s. s ∷ map shape_of locals) (has (shape_of w) refl)
     of_locals (w ∷ locals) (suc i) has = ap (λ l. shape_of w ∷ l) (of_locals locals i has)
+
+    of_digits : (locals : List Value) (i : ℕ) → All Filled locals → ((s : List Leaf) → slice_get (map shape_of locals) i ≡ Some s → Filled v) → All Filled (slice_set locals i v)
+    of_digits [] i h has = h
+    of_digits (w ∷ locals) zero h has = All-cons Filled v locals (has (shape_of w) refl) (All-tail Filled w locals h)
+    of_digits (w ∷ locals) (suc i) h has =
+        All-cons Filled w (slice_set locals i v) (All-head Filled w locals h) (of_digits locals i (All-tail Filled w locals h) has)
+
+-- the value at a place is one of the shape there
+pub value_there : (shapes : List (List Leaf)) (values : List Value) (i : ℕ) → AreValuesOf shapes values → IsValueOf (get_or shapes i []) (get_or values i [])
+value_there shapes values i h = record {
+  leaves = sym (get_or-map shape_of values i []) ∙ ap (λ l. get_or l i []) h.leaves;
+  filled = all_at Filled values i [] none_filled h.filled;
+}
+
+-- another such value in its place
+pub value_set : (shapes : List (List Leaf)) (values : List Value) (i : ℕ) (v : Value) → AreValuesOf shapes values → IsValueOf (get_or shapes i []) v → AreValuesOf shapes (slice_set values i v)
+value_set shapes values i v h is =
+    set_kept shapes values i v h (λ s at. subst (λ r. IsValueOf r v) (get_or_from_slice_get shapes i s [] at) is)
 
 -- ---- paths
 -- a step leads to the part that its shape says
@@ -69,27 +96,25 @@ step_fits scope calls world fits (into.Leaves first count) s r h locals ok left 
     (leb-true (first + count) (length s) cut.0, cut.1)
 step_fits scope calls world fits (into.Item index low size up) s r h locals ok left =
     let at = on_leaf_back (tree_shape scope index) (λ i. item_shape size s) r h in
-    gives_one (λ i. IntoItem (position_of low size up (number_in i)) size) (value_of calls world index) (λ v. shape_of v ≡ at.0 ∷ []) (λ step. Into step s r) locals left
+    gives_one (λ i. IntoItem (position_of low size up (number_in i)) size) (value_of calls world index) (IsValueOf (at.0 ∷ [])) (λ step. Into step s r) locals left
     (shaped scope calls world fits index (at.0 ∷ []) at.1 locals ok left)
     (λ i p. (at.2, position_in low size up (number_in i)))
 step_fits scope calls world fits (into.Part low width) s r h locals ok left =
     let at = on_leaf_back (tree_shape scope low) (λ i. on_leaf (Some s) (part_shape width)) r h in
     let of = on_leaf_back (Some s) (part_shape width) r at.2 in
     let cut = where_so_back (is_width width) (unsigned_leaf width of.0.four ∷ []) r of.2 in
-    gives_one (λ i. IntoPart (number_in i) width) (value_of calls world low) (λ v. shape_of v ≡ at.0 ∷ []) (λ step. Into step s r) locals left
+    gives_one (λ i. IntoPart (number_in i) width) (value_of calls world low) (IsValueOf (at.0 ∷ [])) (λ step. Into step s r) locals left
     (shaped scope calls world fits low (at.0 ∷ []) at.1 locals ok left)
     (λ i p. (of.0, some_back s (of.0 ∷ []) of.1, sym cut.1))
 
 pub path_fits : (scope : Scope) (calls : Calls) (world : World) → HasShapes scope calls world → (path : List Pick) (s r : List Leaf) → path_shape scope path s ≡ Some r → (locals : List Value) → LocalsFit scope locals → (left : ℕ) → Gives (path_of calls world path locals left) (λ steps. Leads steps s r)
 path_fits scope calls world fits [] s r h locals ok left = some_back s r h
 path_fits scope calls world fits (p ∷ path) s r h locals ok left =
-    let first = on_shape_back (pick_shape scope p s) (λ m. on_shape (where_so (may_go_on p path) m) (path_shape scope path)) r h in
-    let next = on_shape_back (where_so (may_go_on p path) first.0) (path_shape scope path) r first.2 in
-    let same = (where_so_back (may_go_on p path) first.0 next.0 next.1).1 in
+    let first = on_shape_back (pick_shape scope p s) (path_shape scope path) r h in
     gives_then (step_of calls world p locals left) (λ x l. and_then (path_of calls world path locals l) (λ xs k. Some (x ∷ xs, k))) (λ step. Into step s first.0) (λ steps. Leads steps s r)
     (step_fits scope calls world fits p s first.0 first.1 locals ok left)
     (λ x l leads. gives_then (path_of calls world path locals l) (λ xs k. Some (x ∷ xs, k)) (λ steps. Leads steps first.0 r) (λ steps. Leads steps s r)
-    (path_fits scope calls world fits path first.0 r (ap (path_shape scope path) same ∙ next.2) locals ok l)
+    (path_fits scope calls world fits path first.0 r first.2 locals ok l)
     (λ xs k on. (first.0, leads, on)))
 
 -- ---- statements
@@ -100,7 +125,7 @@ Named scope result name =
 
 -- the locals have the shapes of a scope, as many as there are
 abbrev pub Kept : Scope → List Value → Type 0
-Kept scope locals = map shape_of locals ≡ scope.locals
+Kept scope locals = AreValuesOf scope.locals locals
 
 -- something done keeps the shapes of the locals
 abbrev pub Keeps : Scope → Doing → Type 0
@@ -133,12 +158,12 @@ module _ (scope : Scope) (result : Shaped) (calls : Calls) (world : World) (name
       let fit = locals_fit scope.locals locals ok in
       gives_then (value_of calls world right locals left)
       (λ v l. by_one (λ steps. (set_local i steps v locals, Next)) (path_of calls world path) locals l)
-      (λ v. shape_of v ≡ both.0) Ends
+      (IsValueOf both.0) Ends
       (shaped scope calls world fits right both.0 both.2 locals fit left)
       (λ v l is. gives_one (λ steps. (set_local i steps v locals, Next)) (path_of calls world path) (λ steps. Leads steps at.0 both.0) Ends locals l
       (path_fits scope calls world fits path at.0 both.0 at.2 locals fit l)
       (λ steps leads. set_kept scope.locals locals i (written steps v (get_or locals i [])) ok
-      (λ s there. written_has steps at.0 both.0 leads v (get_or locals i []) (fit i at.0 at.1) is ∙ some_back at.0 s (sym at.1 ∙ there))))
+      (λ s there. subst (λ r. IsValueOf r (written steps v (get_or locals i []))) (some_back at.0 s (sym at.1 ∙ there)) (written_is steps at.0 both.0 leads v (get_or locals i []) (fit i at.0 at.1) is))))
 
   body_keeps : (flow : Flow) (go : Doing) → Keeps scope go → Keeps scope (after_body flow go)
   body_keeps Next go h locals ok left = h locals ok left
@@ -172,16 +197,21 @@ module _ (scope : Scope) (result : Shaped) (calls : Calls) (world : World) (name
   each_keeps [] i body at h locals ok left = ok
   each_keeps (index ∷ indices) i body at h locals ok left =
       iterate_keeps body (each_of indices i body) h (each_keeps indices i body at h) (slice_set locals i (int_value index))
-      (set_kept scope.locals locals i (int_value index) ok (λ s there. some_back (int_leaf ∷ []) s (sym at ∙ there))) left
+      (set_kept scope.locals locals i (int_value index) ok (λ s there. record { leaves = some_back (int_leaf ∷ []) s (sym at ∙ there); filled = int_filled index })) left
 
   return_keeps : (r : Shaped) → r ≡ result → (value : Option Tree) → return_fits scope r value ≡ true → Keeps scope (return_of calls world name value)
   return_keeps r is None h locals ok left = ok
   return_keeps None is (Some value) h locals ok left = false_is h
-  return_keeps (Some []) is (Some value) h locals ok left = false_is h
-  return_keeps (Some (leaf ∷ leaves)) is (Some value) h locals ok left =
-      gives_one (λ v. (slice_set locals name v, Returned)) (value_of calls world value) (λ v. shape_of v ≡ leaf ∷ leaves) Ends locals left
-      (shaped scope calls world fits value (leaf ∷ leaves) (is_shape_back (tree_shape scope value) (leaf ∷ leaves) h) locals (locals_fit scope.locals locals ok) left)
-      (λ v p. set_kept scope.locals locals name v ok (λ s there. p ∙ named leaf leaves s (sym is) there))
+  return_keeps (Some shape) is (Some value) h locals ok left =
+      gives_one (λ v. (set_name name v locals, Returned)) (value_of calls world value) (IsValueOf shape) Ends locals left
+      (shaped scope calls world fits value shape (is_shape_back (tree_shape scope value) shape h) locals (locals_fit scope.locals locals ok) left)
+      (λ v p. name_kept v p)
+    where
+      name_kept : (v : Value) → IsValueOf shape v → Kept scope (set_name name v locals)
+      name_kept [] p = ok
+      name_kept (l ∷ ls) p =
+          set_kept scope.locals locals name (l ∷ ls) ok
+          (λ s there. record { leaves = named l.leaf (shape_of ls) s (sym is ∙ ap Some (sym p.leaves)) there; filled = p.filled })
 
   abbrev Claim : Act → Type 0
   Claim act = act_fits scope result act ≡ true → Keeps scope (does calls world name act)

@@ -6,6 +6,8 @@ use Rattle.nt_value.specs.declared.digit.Digit.{Digit}
 use Rattle.nt_value.specs.declared.digit.Digit.TheVariants.{Zero, One, X, Z}
 use Rattle.nt_value.specs.Operators.{unsigned_leaf}
 use Rattle.nt_design.specs.Parts.{Value, one, part_at, with_part, written, position_of, item_at, number_in, int_value, concatenated, merged, IntoItem, IntoLeaves, IntoPart}
+use Rattle.nt_design.specs.Puts.{put_of}
+use Rattle.nt_design.specs.declared.put.Put.{Put}
 use Rattle.nt_design.specs.Statements.{nothing, loop, always, repeat_of, indices_of, count_of, each_of}
 use Rattle.nt_design.specs.declared.act.Flow.TheVariants.{Next}
 
@@ -107,3 +109,28 @@ last_index = refl
 
 negative : count_of (number_in (one (record { leaf = record { width = 2; signed = true; four = true }; digits = Zero ∷ One ∷ [] }))) ≡ 0
 negative = refl
+
+-- ---- a part of a part
+-- [3:2] of a leaf, and of it the digits from -1 to 1: digits 2 and 3 become the last two
+part_of_part : put_of 5 (six ∷ []) (IntoPart (Some (pos 2)) 2 ∷ IntoPart (Some (negsuc 0)) 3 ∷ []) (one (logic 3 (X ∷ One ∷ Z ∷ []))) ≡ record { var = 5; first = 0; low = 2; width = 2; value = one (logic 2 (One ∷ Z ∷ [])) }
+part_of_part = refl
+
+-- [5:3], of which digits 4 and 5 are outside, and of it its digit 1: nothing is written
+part_outside : put_of 5 (six ∷ []) (IntoPart (Some (pos 3)) 3 ∷ IntoPart (Some (pos 1)) 1 ∷ []) (one (logic 1 (One ∷ []))) ≡ record { var = 5; first = 0; low = 0; width = 0; value = [] }
+part_outside = refl
+
+written_part : written (IntoPart (Some (pos 2)) 2 ∷ IntoPart (Some (negsuc 0)) 3 ∷ []) (one (logic 3 (X ∷ One ∷ Z ∷ []))) (six ∷ []) ≡ one (logic 4 (Zero ∷ One ∷ One ∷ Z ∷ []))
+written_part = refl
+
+-- ---- parts that are partly or wholly outside
+wholly_below : part_at (Some (negsuc 3)) 2 (logic 2 (One ∷ Zero ∷ [])) ≡ logic 2 (X ∷ X ∷ [])
+wholly_below = refl
+
+round_it : part_at (Some (negsuc 0)) 4 (logic 2 (One ∷ Zero ∷ [])) ≡ logic 4 (X ∷ One ∷ Zero ∷ X ∷ [])
+round_it = refl
+
+write_round_it : with_part (Some (negsuc 0)) (logic 4 (Z ∷ X ∷ One ∷ Z ∷ [])) (logic 2 (Zero ∷ Zero ∷ [])) ≡ logic 2 (X ∷ One ∷ [])
+write_round_it = refl
+
+write_unknown : with_part None (logic 1 (One ∷ [])) (logic 2 (Zero ∷ Zero ∷ [])) ≡ logic 2 (Zero ∷ Zero ∷ [])
+write_unknown = refl

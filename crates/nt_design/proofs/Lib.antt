@@ -1,10 +1,13 @@
 pub mod Acts
-pub mod CallsFrame
+pub mod Crosses
 pub mod Does
 pub mod Examples
 pub mod Constants
+pub mod Filled
 pub mod Frame
 pub mod Inside
+pub mod Overlay
+pub mod Puts
 pub mod Results
 pub mod Shaped
 pub mod Values

@@ -7,23 +7,14 @@ use Rattle.std.proofs.Math.Nat.{div-le_self}
 use Rattle.std.specs.List.{take-map, drop-map}
 use Rattle.nt_value.specs.Digits.{LeafValue}
 use Rattle.nt_value.specs.Operators.{unsigned_leaf}
-use Rattle.nt_value.specs.Values.{shape_of}
+use Rattle.nt_value.specs.Values.{IsValueOf, shape_of}
 use Rattle.nt_value.specs.declared.leaf.Leaf.{Leaf}
+use Rattle.nt_design.proofs.Filled.{written_filled}
 use Rattle.nt_design.proofs.Frame.{two}
-use Rattle.nt_design.proofs.Shaped.{InBounds, append_has, each_has, item_has, leaves_has, one_of_repeated, only_leaf, repeated, shape_back, where_so_back}
+use Rattle.nt_design.proofs.Shaped.{append_has, each_has, item_has, leaves_has, one_of_repeated, only_leaf, repeated, shape_back, where_so_back}
+use Rattle.nt_design.specs.Fitting.{InBounds, Into, Leads}
 use Rattle.nt_design.specs.Parts.{Value, leaves_at, leaves_each, with_leaves, Step, IntoLeaves, IntoItem, IntoPart, part_by, with_part_by, written}
 use Rattle.nt_design.specs.Shapes.{element_shape, is_same_shape, item_shape}
-
--- a step leads from one shape to a part of it
-abbrev pub Into : Step → List Leaf → List Leaf → Type 0
-Into (IntoLeaves first count) s r = (first + count ≤ length s) × (leaves_at first count s ≡ r)
-Into (IntoItem position size) s r = (item_shape size s ≡ Some r) × InBounds position size
-Into (IntoPart low width) s r = (leaf : Leaf) × (s ≡ leaf ∷ []) × (r ≡ unsigned_leaf width leaf.four ∷ [])
-
--- so does a path
-abbrev pub Leads : List Step → List Leaf → List Leaf → Type 0
-Leads [] s r = s ≡ r
-Leads (step ∷ path) s r = (mid : List Leaf) × Into step s mid × Leads path mid r
 
 -- some leaves replaced
 pub with_leaves_has : (first count : ℕ) (part value : Value) (s r : List Leaf) → first + count ≤ length s → leaves_at first count s ≡ r → shape_of value ≡ s → shape_of part ≡ r → shape_of (with_leaves first count part value) ≡ s
@@ -87,3 +78,10 @@ written_has [] s r leads new value h k = k ∙ sym leads
 written_has (step ∷ path) s r leads new value h k =
     with_part_has step s leads.0 leads.1 (written path new (part_by step value)) value h
     (written_has path leads.0 r leads.2 new (part_by step value) (part_has step s leads.0 leads.1 value h) k)
+
+-- a value of a shape stays one after a write through a path
+pub written_is : (path : List Step) (s r : List Leaf) → Leads path s r → (new value : Value) → IsValueOf s value → IsValueOf r new → IsValueOf s (written path new value)
+written_is path s r leads new value h k = record {
+  leaves = written_has path s r leads new value h.leaves k.leaves;
+  filled = written_filled path new value k.filled h.filled;
+}

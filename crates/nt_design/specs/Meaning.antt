@@ -1,4 +1,4 @@
--- What functions give, and the value of an expression within the turns of an event.
+-- What functions give (IEEE 1800-2017, 13.4), and the value of an expression within the turns of an event.
 use Rattle.std.specs.Prelude.{ℕ, zero, suc, if◌then◌else◌, List, [], ◌∷◌, ◌++◌, map, Option, Some, None, get_or, slice_get, length, option_map}
 use Rattle.nt_value.specs.Values.{default_value, shape_of}
 use Rattle.nt_value.specs.declared.leaf.Leaf.{Leaf}
@@ -43,13 +43,13 @@ run calls (Some f) args left =
     and_then (do_all calls (own_world f args) (name_of f) f.body (entry_of f args) left) (λ e l.
     Some (result_of f.result (name_of f) e.0, l))
 
--- calls that go at most so deep. A call is a turn, so as many turns are deep enough
+-- calls that go at most so deep. A call is a turn, which is this project's rule, so as many turns are deep enough
 unfoldable pub calls_to : List Function → ℕ → Calls
 calls_to functions zero f args left = None
 calls_to functions (suc depth) f args left =
     spend left (λ l. run (calls_to functions depth) (slice_get functions f) args l)
 
--- the turns of an event
+-- the turns of an event, this project's limit
 abbrev pub most_turns : ℕ
 most_turns = 65536
 

@@ -1,4 +1,5 @@
--- Values of several leaves, and their parts: what a read of a part gives, and what a write of one leaves.
+-- Values of several leaves, and their parts: what a read of a part gives, and what a write of one leaves (IEEE 1800-2017,
+-- clauses 7, 10 and 11).
 use Rattle.std.specs.Prelude.{ℕ, suc, ◌+◌, ◌-◌, ◌*◌, ◌/◌, nat_lt, Bool, true, false, not, ◌&&◌, if◌then◌else◌, List, [], ◌∷◌, ◌++◌, Option, Some, None, get_or, length, take, drop, replicate, ℤ, pos, negsuc}
 use Rattle.std.specs.List.{flat_map}
 use Rattle.nt_value.specs.Arithmetic.{padded}

@@ -1,4 +1,5 @@
--- What expressions and statements read, write and call, as far as their text tells.
+-- What expressions and statements read, write and call, as far as their text tells (IEEE 1800-2017, 9.2.2.2.1, 9.4.2.2
+-- and clause 11).
 use Rattle.std.specs.Prelude.{ℕ, Bool, true, false, List, [], ◌∷◌, ◌++◌, map, filter, Option, Some, None}
 use Rattle.std.specs.List.{flat_map, list_all, list_any}
 use Rattle.nt_value.specs.declared.kind.Edge.{Edge}
@@ -59,33 +60,33 @@ abbrev pub calls_of : Tree → List ℕ
 calls_of = fold-Tree (List ℕ) calls_step
 
 -- what else an expression may take from outside: the moment, and elements of a resolver's argument and their number
-pub data Other : Type 0 where
-  Moment : Other
-  Element : Other
-  Count : Other
+pub data Source : Type 0 where
+  Moment : Source
+  Element : Source
+  Count : Source
 
-abbrev pub others_step : Tree-F (List Other) → List Other
-others_step (Tree-F.Element index) = Element ∷ index
-others_step Tree-F.Size = Count ∷ []
-others_step Tree-F.Time = Moment ∷ []
-others_step t = tree_parts t
+abbrev pub sources_step : Tree-F (List Source) → List Source
+sources_step (Tree-F.Element index) = Element ∷ index
+sources_step Tree-F.Size = Count ∷ []
+sources_step Tree-F.Time = Moment ∷ []
+sources_step t = tree_parts t
 
-abbrev pub others_of : Tree → List Other
-others_of = fold-Tree (List Other) others_step
+abbrev pub sources_of : Tree → List Source
+sources_of = fold-Tree (List Source) sources_step
 
-abbrev pub is_moment : Other → Bool
+abbrev pub is_moment : Source → Bool
 is_moment Moment = true
 is_moment Element = false
 is_moment Count = false
 
-abbrev pub is_element : Other → Bool
+abbrev pub is_element : Source → Bool
 is_element Moment = false
 is_element Element = true
 is_element Count = false
 
 -- an expression has `$time`
 abbrev pub has_time : Tree → Bool
-has_time tree = list_any is_moment (others_of tree)
+has_time tree = list_any is_moment (sources_of tree)
 
 -- ---- targets
 -- the expressions in a path

@@ -1,9 +1,9 @@
--- Where statements may stand, as far as their text tells.
+-- Where statements may stand, as far as their text tells (IEEE 1800-2017, clauses 9, 10, 12 and 13).
 use Rattle.std.specs.Prelude.{ℕ, ◌^◌, ◌==◌, nat_le, Bool, true, false, not, ◌&&◌, List, [], ◌∷◌, ◌++◌, map, filter, is_some, Option, Some, None, slice_get, length, ℤ, pos, negsuc}
 use Rattle.std.specs.List.{list_all}
 use Rattle.nt_design.specs.Parts.{Value, number_in, int_leaf}
 use Rattle.nt_design.specs.Reads.{act_parts, calls_of, event_trees}
-use Rattle.nt_design.specs.Shapes.{Scope, Shaped, tree_shape, target_shape, call_shape, is_both, is_shape, is_leaf}
+use Rattle.nt_design.specs.Shapes.{Scope, Shaped, tree_shape, target_shape, call_shape, is_both, is_shape, is_leaf, signature_at}
 use Rattle.nt_value.specs.declared.kind.Edge.{Edge}
 use Rattle.nt_design.specs.declared.target.Target.{Target}
 use Rattle.nt_design.specs.declared.target.Target.TheVariants.{Var, Slot, Local}
@@ -63,18 +63,22 @@ jumps_of = fold-Act (List Jump) jumps_step
 
 -- ---- statements that not every place has
 pub data Special : Type 0 where
-  Later : Special
-  System : Special
+  NonblockingAssignment : Special
+  SystemCall : Special
 
-abbrev pub is_later : Special → Bool
-is_later Later = true
-is_later System = false
+abbrev pub is_nonblocking : Special → Bool
+is_nonblocking NonblockingAssignment = true
+is_nonblocking SystemCall = false
+
+abbrev pub is_system : Special → Bool
+is_system NonblockingAssignment = false
+is_system SystemCall = true
 
 -- the nonblocking assignments and the system calls of a statement
 abbrev pub specials_step : Act-F (List Special) → List Special
-specials_step (Act-F.Nonblocking left right at) = Later ∷ []
-specials_step (Act-F.Display text args at) = System ∷ []
-specials_step (Act-F.Finish at) = System ∷ []
+specials_step (Act-F.Nonblocking left right at) = NonblockingAssignment ∷ []
+specials_step (Act-F.Display text args at) = SystemCall ∷ []
+specials_step (Act-F.Finish at) = SystemCall ∷ []
 specials_step s = act_parts s
 
 abbrev pub specials_of : Act → List Special
@@ -127,12 +131,12 @@ abbrev pub bounds_fit : Option (ℕ × ℕ) → Shaped → Bool
 bounds_fit None many = is_some many
 bounds_fit (Some bounds) many = true
 
--- a returned value has the leaves of the result; a function without a result returns none (13.4.1)
+-- a returned value has the leaves of the result, of which a structure without members has none; a procedure returns no
+-- value (12.8, 13.4.1)
 abbrev pub return_fits : Scope → Shaped → Option Tree → Bool
 return_fits scope result None = true
 return_fits scope None (Some value) = false
-return_fits scope (Some []) (Some value) = false
-return_fits scope (Some (leaf ∷ leaves)) (Some value) = is_shape (tree_shape scope value) (leaf ∷ leaves)
+return_fits scope (Some shape) (Some value) = is_shape (tree_shape scope value) shape
 
 -- Each part of a statement has the shape that its place asks for; those of its own statements are told. A nonblocking
 -- assignment writes no loop variable, which is automatic (10.4.2).
@@ -159,7 +163,7 @@ fits_step scope result (Act-F.Return value at) = return_fits scope result value
 fits_step scope result (Act-F.Break at) = true
 fits_step scope result (Act-F.Continue at) = true
 fits_step scope result (Act-F.Call f args at) =
-    is_some (call_shape (slice_get scope.functions f) (map (tree_shape scope) args))
+    is_some (call_shape (signature_at scope f) (map (tree_shape scope) args))
 fits_step scope result (Act-F.Display text args at) = list_all (λ arg. is_leaf (tree_shape scope arg)) args
 fits_step scope result (Act-F.Finish at) = true
 

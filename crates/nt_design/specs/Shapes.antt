@@ -1,7 +1,9 @@
--- The leaves of an expression's value: whether each of its parts has those that its place asks for.
-use Rattle.std.specs.Prelude.{ℕ, ◌+◌, ◌==◌, nat_lt, nat_le, Bool, true, false, not, ◌&&◌, ◌||◌, if◌then◌else◌, List, [], ◌∷◌, ◌++◌, replicate, take, length, Option, Some, None, slice_get}
+-- The leaves of an expression's value (IEEE 1800-2017, clauses 7 and 11): whether each of its parts has those that its
+-- place asks for.
+use Rattle.std.specs.Prelude.{ℕ, ◌+◌, ◌==◌, nat_lt, nat_le, Bool, true, false, not, ◌&&◌, ◌||◌, if◌then◌else◌, List, [], ◌∷◌, ◌++◌, replicate, take, length, Option, Some, None, get_or, slice_get}
 use Rattle.std.specs.Bool.{beq}
 use Rattle.std.specs.List.{flat_map}
+use Rattle.nt_value.specs.Digits.{are_filled}
 use Rattle.nt_value.specs.Operators.{unsigned_leaf, is_sized_together}
 use Rattle.nt_value.specs.Values.{shape_of}
 use Rattle.nt_value.specs.declared.leaf.Leaf.{Leaf}
@@ -10,7 +12,6 @@ use Rattle.nt_value.specs.declared.operator.Binary.TheVariants.{Add, Sub, Mul, D
 use Rattle.nt_value.specs.declared.operator.Unary.{Unary}
 use Rattle.nt_value.specs.declared.operator.Unary.TheVariants.{Plus, Minus, Not}
 use Rattle.nt_design.specs.Parts.{leaves_at, leaves_each, int_leaf, time_leaf}
-use Rattle.nt_design.specs.declared.function.Function.{Function}
 use Rattle.nt_design.specs.declared.object.Object.{Object}
 use Rattle.nt_design.specs.declared.object.Object.TheVariants.{Net, Var}
 use Rattle.nt_design.specs.declared.target.Pick.{Pick}
@@ -88,18 +89,28 @@ are_shapes (o ∷ os) [] = false
 are_shapes (o ∷ os) (s ∷ ss) = is_shape o s && are_shapes os ss
 
 -- ---- what names stand for
--- the shapes of nets, variables and locals and of a resolver's elements, and the functions
+-- a function that may be called: the shapes of its arguments and of its result (13.4)
+pub record Signature : Type 0 where
+  pub args : List (List Leaf)
+  pub result : List Leaf
+
+-- the shapes of nets, variables and locals and of a resolver's elements, and the functions: none where a function may not
+-- be called
 pub record Scope : Type 0 where
   pub nets : List (List Leaf)
   pub vars : List (List Leaf)
   pub locals : List (List Leaf)
   pub many : Option (List Leaf)
-  pub functions : List Function
+  pub functions : List (Option Signature)
 
 -- the shape of a net or a variable
 abbrev pub object_shape : Scope → Object → Shaped
 object_shape scope (Net n) = slice_get scope.nets n
 object_shape scope (Var v) = slice_get scope.vars v
+
+-- the function of this number, where it may be called
+abbrev pub signature_at : Scope → ℕ → Option Signature
+signature_at scope f = get_or scope.functions f None
 
 -- ---- parts
 -- some leaves of a shape that has them
@@ -172,15 +183,15 @@ all_leaves (part ∷ parts) = on_shape part (λ s. on_shape (all_leaves parts) (
 abbrev pub gather_shape : List Shaped → Shaped
 gather_shape parts = on_shape (all_leaves parts) (λ shape. where_so (nat_le (length shape) 64) shape)
 
--- a call: the arguments have the shapes of the function's, and no argument is a dynamic array
-abbrev pub call_shape : Option Function → List Shaped → Shaped
+-- a call: the arguments have the shapes of the function's (13.4)
+abbrev pub call_shape : Option Signature → List Shaped → Shaped
 call_shape None args = None
-call_shape (Some f) args = where_so (not f.many && are_shapes args f.args) f.result
+call_shape (Some f) args = where_so (are_shapes args f.args) f.result
 
 -- ---- trees
 -- the shape of an expression, from those of its parts
 abbrev pub shape_step : Scope → Tree-F Shaped → Shaped
-shape_step scope (Tree-F.Const value) = Some (shape_of value)
+shape_step scope (Tree-F.Const value) = where_so (are_filled value) (shape_of value)
 shape_step scope (Tree-F.Read object) = object_shape scope object
 shape_step scope (Tree-F.Local i) = slice_get scope.locals i
 shape_step scope (Tree-F.Leaves a first count) = on_shape a (leaves_shape first count)
@@ -195,7 +206,7 @@ shape_step scope (Tree-F.Choose test a b) =
 shape_step scope (Tree-F.Concat parts) = concat_shape parts
 shape_step scope (Tree-F.Gather parts) = gather_shape parts
 shape_step scope (Tree-F.Resize a to) = on_leaf a (λ leaf. where_so (is_width to.width) (to ∷ []))
-shape_step scope (Tree-F.Call f args) = call_shape (slice_get scope.functions f) args
+shape_step scope (Tree-F.Call f args) = call_shape (signature_at scope f) args
 shape_step scope Tree-F.Size = on_shape scope.many (λ s. one_leaf int_leaf)
 shape_step scope Tree-F.Time = one_leaf time_leaf
 
@@ -210,16 +221,10 @@ pick_shape scope (Leaves first count) shape = leaves_shape first count shape
 pick_shape scope (Item index low size up) shape = on_leaf (tree_shape scope index) (λ i. item_shape size shape)
 pick_shape scope (Part low width) shape = on_leaf (tree_shape scope low) (λ i. on_leaf (Some shape) (part_shape width))
 
--- a bit or part is where a path ends
-abbrev pub may_go_on : Pick → List Pick → Bool
-may_go_on (Part low width) (p ∷ path) = false
-may_go_on _ _ = true
-
 -- the part to which a path leads
 abbrev pub path_shape : Scope → List Pick → List Leaf → Shaped
 path_shape scope [] shape = Some shape
-path_shape scope (p ∷ path) shape =
-    on_shape (pick_shape scope p shape) (λ s. on_shape (where_so (may_go_on p path) s) (path_shape scope path))
+path_shape scope (p ∷ path) shape = on_shape (pick_shape scope p shape) (path_shape scope path)
 
 -- a slot, or the digits of one that a driver of a part drives
 abbrev pub slot_shape : ℕ → ℕ → List Leaf → Shaped

@@ -93,7 +93,7 @@ abbrev pub repeat_of : ℕ → Doing → Doing
 repeat_of zero body locals left = nothing locals left
 repeat_of (suc n) body locals left = iterate body (repeat_of n body) locals left
 
--- the count of a `repeat`: 0 where it has x or z or is below 0 (12.7.2)
+-- the count of a `repeat`: 0 where it has x or z (12.7.2), or is below 0, which is this project's rule
 abbrev pub count_of : Option ℤ → ℕ
 count_of None = 0
 count_of (Some (pos n)) = n
@@ -145,11 +145,16 @@ first_arm calls world test (arm ∷ arms) other locals left =
     and_then (is_among test (map (value_of calls world) arm.0) locals left) (λ is l.
     if is then arm.1 locals l else first_arm calls world test arms other locals l)
 
--- the value that a function returns goes to its name, whose local this is (13.4.1)
+-- a function's name, whose local this is, takes a value; one without leaves goes nowhere
+abbrev pub set_name : ℕ → Value → List Value → List Value
+set_name name [] locals = locals
+set_name name (leaf ∷ leaves) locals = slice_set locals name (leaf ∷ leaves)
+
+-- the value that a function returns goes to its name (13.4.1)
 abbrev pub return_of : Calls → World → ℕ → Option Tree → Doing
 return_of calls world name None locals left = Some ((locals, Returned), left)
 return_of calls world name (Some value) locals left =
-    by_one (λ v. (slice_set locals name v, Returned)) (value_of calls world value) locals left
+    by_one (λ v. (set_name name v locals, Returned)) (value_of calls world value) locals left
 
 -- what a statement does, from what its parts do. Statements that no function has do nothing
 abbrev pub act_step : Calls → World → ℕ → Act-F Doing → Doing

@@ -1,4 +1,5 @@
--- What may take turns: something with the turns that are left after it, or nothing where it takes too many.
+-- What may take turns: something with the turns that are left after it, or nothing where it takes too many. A turn is a
+-- call of a function or an iteration of a loop; that they are counted, and their limit, are this project's rules.
 use Rattle.std.specs.Prelude.{ℕ, zero, suc, List, [], ◌∷◌, Option, Some, None}
 use Rattle.nt_value.specs.declared.digit.Digit.{Digit}
 use Rattle.nt_value.specs.declared.digit.Digit.TheVariants.{Zero, One, X, Z}

@@ -1,13 +1,15 @@
--- Which designs are well formed, and which environments fit one.
-use Rattle.std.specs.Prelude.{◌≡◌, ◌↔◌, ◌⊎◌, ⊤, ℕ, ◌+◌, ◌==◌, ◌≤◌, ◌<◌, Bool, true, false, not, if◌then◌else◌, List, [], ◌∷◌, ◌++◌, map, filter, length, All, Contains, Option, Some, None, IsSome, slice_get, option_to_list}
-use Rattle.std.specs.List.{flat_map, list_any}
-use Rattle.nt_value.specs.Values.{shape_of}
+-- Which designs are well formed (IEEE 1800-2017, clauses 6, 9, 10 and 13), and which environments fit one.
+use Rattle.std.specs.Prelude.{◌≡◌, ◌↔◌, ◌⊎◌, ⊤, ℕ, ◌+◌, ◌^◌, ◌==◌, ◌≤◌, ◌<◌, Bool, true, false, not, ◌&&◌, if◌then◌else◌, List, [], ◌∷◌, ◌++◌, map, filter, length, All, Contains, Option, Some, None, IsSome, slice_get, option_to_list}
+use Rattle.std.specs.List.{flat_map, list_all, list_any}
+use Rattle.nt_value.specs.Digits.{IsFilled}
+use Rattle.nt_value.specs.Units.{IsUnit}
+use Rattle.nt_value.specs.Values.{AreValuesOf, IsValueOf, shape_of}
 use Rattle.nt_value.specs.declared.leaf.Leaf.{Leaf}
 use Rattle.nt_design.specs.Meaning.{own_args}
 use Rattle.nt_design.specs.Parts.{Value}
-use Rattle.nt_design.specs.Reads.{others_of, has_time, is_element, reads_of, calls_of, trees_of, targets_of, act_reads, act_writes, act_calls, act_awaits}
-use Rattle.nt_design.specs.Rules.{is_slot, is_local, is_later, is_return, controls_of, jumps_of, specials_of, act_fits}
-use Rattle.nt_design.specs.Shapes.{Scope, tree_shape, target_shape}
+use Rattle.nt_design.specs.Reads.{sources_of, has_time, is_element, reads_of, trees_of, targets_of, act_reads, act_writes, act_calls, act_awaits}
+use Rattle.nt_design.specs.Rules.{is_slot, is_local, is_nonblocking, is_system, is_return, controls_of, jumps_of, specials_of, act_fits}
+use Rattle.nt_design.specs.Shapes.{Scope, Signature, tree_shape, target_shape, where_so}
 use Rattle.nt_design.specs.declared.act.Act.{Act}
 use Rattle.nt_design.specs.declared.design.Design.{Design}
 use Rattle.nt_design.specs.declared.design.Scoped.{Scoped}
@@ -35,10 +37,37 @@ net_shapes d = map (λ (net : Net). net.shape) d.nets
 abbrev pub var_shapes : Design → List (List Leaf)
 var_shapes d = map (λ (var : Var). var.shape) d.vars
 
+-- an expression reads no object
+abbrev pub reads_nothing : Tree → Bool
+reads_nothing tree = length (reads_of tree) == 0
+
+-- a function uses only its arguments, locals, name and constants, and has no system call (13.4; this project's rule)
+abbrev pub is_own : Function → Bool
+is_own f =
+    list_all is_local (flat_map targets_of f.body)
+    && (list_all reads_nothing (flat_map trees_of f.body) && list_all (λ s. not (is_system s)) (flat_map specials_of f.body))
+
+-- what a function is to its callers: no expression or statement calls one that uses what isn't its own, or that has a
+-- dynamic array as its argument
+abbrev pub signature_of : Function → Option Signature
+signature_of f = where_so (not f.many && is_own f) (record { args = f.args; result = f.result })
+
+abbrev pub signatures : Design → List (Option Signature)
+signatures d = map signature_of d.functions
+
 -- what names stand for, beside these locals and this argument of a resolver
 abbrev pub scope_with : Design → List (List Leaf) → Option (List Leaf) → Scope
 scope_with d locals many =
-    record { nets = net_shapes d; vars = var_shapes d; locals = locals; many = many; functions = d.functions }
+    record { nets = net_shapes d; vars = var_shapes d; locals = locals; many = many; functions = signatures d }
+
+-- what names stand for outside procedures and functions
+abbrev pub design_scope : Design → Scope
+design_scope d = scope_with d [] None
+
+-- and beside these locals
+abbrev pub with_locals : Scope → List (List Leaf) → Scope
+with_locals scope locals =
+    record { nets = scope.nets; vars = scope.vars; locals = locals; many = scope.many; functions = scope.functions }
 
 -- the local that is a function's name; there is none without leaves
 abbrev pub name_shape : List Leaf → List (List Leaf)
@@ -49,18 +78,24 @@ name_shape (leaf ∷ leaves) = (leaf ∷ leaves) ∷ []
 abbrev pub function_locals : Function → List (List Leaf)
 function_locals f = own_args f f.args ++ (name_shape f.result ++ f.locals)
 
-abbrev pub function_scope : Design → Function → Scope
-function_scope d f = scope_with d (function_locals f) (if f.many then slice_get f.args 0 else None)
+-- nets or variables as far as a function may use them
+abbrev pub usable_in : Function → List (List Leaf) → List (List Leaf)
+usable_in f objects = if is_own f then [] else objects
+
+-- what names stand for in a function's body
+abbrev pub function_scope : Scope → Function → Scope
+function_scope scope f =
+    record {
+      nets = usable_in f scope.nets;
+      vars = usable_in f scope.vars;
+      locals = function_locals f;
+      many = if f.many then slice_get f.args 0 else None;
+      functions = scope.functions;
+    }
 
 -- ---- what is called
 abbrev pub function_calls : Function → List ℕ
 function_calls f = flat_map act_calls f.body
-
--- all calls of a design
-abbrev pub calls_in : Design → List ℕ
-calls_in d =
-    flat_map (λ (p : Proc). act_calls p.body) d.procs
-    ++ (flat_map (λ (a : Assign). calls_of a.right) d.assigns ++ flat_map function_calls d.functions)
 
 -- the functions that a function calls
 abbrev pub called_by : Option Function → List ℕ
@@ -79,7 +114,8 @@ is_written_in body (object.Net n) = false
 is_written_in body (object.Var v) = list_any (λ w. w == v) (act_writes body)
 
 -- the objects whose change may wake a procedure: for an `always_comb` what it reads and doesn't itself write
--- (9.2.2.2.1), for others what they may wait for (9.4.2, 9.4.3)
+-- (9.2.2.2.1), for others what they may wait for (9.4.2, 9.4.3). That each is a whole net or variable is this project's
+-- rule
 abbrev pub sensitive_to : ProcKind → Act → List Object
 sensitive_to Comb body = filter (λ o. not (is_written_in body o)) (act_reads body)
 sensitive_to _ body = act_awaits body
@@ -106,11 +142,9 @@ pub record IsResolver (shape : List Leaf) (f : Function) : Type 0 where
   pub argument : f.args ≡ shape ∷ []
   pub result : f.result ≡ shape
 
--- a function uses only its arguments, locals, name and constants, and has no system call (13.4; this project's rule)
-pub record IsOwn (f : Function) : Type 0 where
-  pub writes : All (λ t. is_local t ≡ true) (flat_map targets_of f.body)
-  pub reads : All (λ t. reads_of t ≡ []) (flat_map trees_of f.body)
-  pub no_system : All (λ s. is_later s ≡ true) (flat_map specials_of f.body)
+-- a function uses only what is its own
+abbrev pub IsOwn : Function → Type 0
+IsOwn f = is_own f ≡ true
 
 -- what the kind of a net asks for: a built-in net has one leaf of four states (6.7.1), a nettype without a resolution
 -- function has at most one driver, and one with it has a resolver (6.6.7)
@@ -128,7 +162,7 @@ pub record IsNet (d : Design) (n : ℕ) (net : Net) : Type 0 where
 
 -- a variable begins with a value of its leaves
 pub record IsVar (var : Var) : Type 0 where
-  pub start : shape_of var.start ≡ var.shape
+  pub start : IsValueOf var.shape var.start
 
 -- ---- assignments
 abbrev pub IsBuiltIn : NetKind → Type 0
@@ -138,16 +172,16 @@ IsBuiltIn (Resolved f) = ⊥
 
 -- what a continuous assignment may drive: a slot that lists it, whole where the net is of a user nettype (6.6.7), or a
 -- whole variable (10.3.2; that it is whole is this project's limit)
-abbrev pub IsDriven : Design → ℕ → Target → Type 0
-IsDriven d a (target.Var v path) = path ≡ []
-IsDriven d a (target.Slot n s low width) =
-    (net : Net) × (slice_get d.nets n ≡ Some net) × (slice_get net.slots s ≡ Some a) × (IsBuiltIn net.kind ⊎ ((low ≡ 0) × (width ≡ 0)))
-IsDriven d a (target.Local i path) = ⊥
+abbrev pub IsDriven : List Net → ℕ → Target → Type 0
+IsDriven nets a (target.Var v path) = path ≡ []
+IsDriven nets a (target.Slot n s low width) =
+    (net : Net) × (slice_get nets n ≡ Some net) × (slice_get net.slots s ≡ Some a) × (IsBuiltIn net.kind ⊎ ((low ≡ 0) × (width ≡ 0)))
+IsDriven nets a (target.Local i path) = ⊥
 
 -- a continuous assignment: what it drives, with a value of its leaves, without `$time`, and what it is sensitive to
-pub record IsAssign (d : Design) (a : ℕ) (assign : Assign) : Type 0 where
-  pub target : IsDriven d a assign.target
-  pub shape : (leaves : List Leaf) × (target_shape (scope_with d [] None) assign.target ≡ Some leaves) × (tree_shape (scope_with d [] None) assign.right ≡ Some leaves)
+pub record IsAssign (scope : Scope) (nets : List Net) (a : ℕ) (assign : Assign) : Type 0 where
+  pub target : IsDriven nets a assign.target
+  pub shape : (leaves : List Leaf) × (target_shape scope assign.target ≡ Some leaves) × (tree_shape scope assign.right ≡ Some leaves)
   pub no_time : has_time assign.right ≡ false
   pub reads : Lists assign.reads (reads_of assign.right)
 
@@ -161,24 +195,26 @@ IsTimed Initial controls = ⊤
 IsTimed Always controls = ⊤
 
 -- a procedure: shapes, timing, no jump out of it (12.8), no net written (6.5), and what it is sensitive to
-pub record IsProc (d : Design) (p : Proc) : Type 0 where
-  pub fits : act_fits (scope_with d p.locals None) None p.body ≡ true
+pub record IsProc (scope : Scope) (p : Proc) : Type 0 where
+  pub fits : act_fits (with_locals scope p.locals) None p.body ≡ true
   pub timed : IsTimed p.kind (controls_of p.body)
   pub no_jump : jumps_of p.body ≡ []
   pub no_net : All (λ t. is_slot t ≡ false) (targets_of p.body)
   pub reads : Lists p.reads (sensitive_to p.kind p.body)
 
 -- ---- functions
--- a function: shapes, no timing control and no nonblocking assignment (13.4.4), no loop left from outside it (12.8), no
--- net written (6.5), no `$time`, and a dynamic array as its one argument or none
-pub record IsFunction (d : Design) (f : Function) : Type 0 where
-  pub fits : All (λ s. act_fits (function_scope d f) (Some f.result) s ≡ true) f.body
+-- a function: shapes, no timing control (13.4), no nonblocking assignment (this project's rule), no loop left from
+-- outside it (12.8), no net written (6.5), no `$time`, a dynamic array as its one argument or none, and as many locals as
+-- may be numbered
+pub record IsFunction (scope : Scope) (f : Function) : Type 0 where
+  pub fits : All (λ s. act_fits (function_scope scope f) (Some f.result) s ≡ true) f.body
   pub no_timing : flat_map controls_of f.body ≡ []
-  pub no_later : All (λ s. is_later s ≡ false) (flat_map specials_of f.body)
+  pub no_nonblocking : All (λ s. is_nonblocking s ≡ false) (flat_map specials_of f.body)
   pub no_jump : All (λ j. is_return j ≡ true) (flat_map jumps_of f.body)
   pub no_net : All (λ t. is_slot t ≡ false) (flat_map targets_of f.body)
   pub no_time : All (λ t. has_time t ≡ false) (flat_map trees_of f.body)
   pub one_argument : f.many ≡ true → length f.args ≡ 1
+  pub few_locals : length (function_locals f) ≤ 2 ^ 32
 
 -- ---- writers
 -- a procedure writes a variable
@@ -233,24 +269,26 @@ pub record IsSmall (d : Design) : Type 0 where
 pub record IsDesign (d : Design) : Type 0 where
   pub nets : (n : ℕ) (net : Net) → slice_get d.nets n ≡ Some net → IsNet d n net
   pub vars : (v : ℕ) (var : Var) → slice_get d.vars v ≡ Some var → IsVar var
-  pub procs : (p : ℕ) (proc : Proc) → slice_get d.procs p ≡ Some proc → IsProc d proc
-  pub assigns : (a : ℕ) (assign : Assign) → slice_get d.assigns a ≡ Some assign → IsAssign d a assign
-  pub functions : (f : ℕ) (function : Function) → slice_get d.functions f ≡ Some function → IsFunction d function
-  pub called : (f : ℕ) (function : Function) → Contains (calls_in d) f → slice_get d.functions f ≡ Some function → IsOwn function
+  pub procs : (p : ℕ) (proc : Proc) → slice_get d.procs p ≡ Some proc → IsProc (design_scope d) proc
+  pub assigns : (a : ℕ) (assign : Assign) → slice_get d.assigns a ≡ Some assign → IsAssign (design_scope d) d.nets a assign
+  pub functions : (f : ℕ) (function : Function) → slice_get d.functions f ≡ Some function → IsFunction (design_scope d) function
   pub writers : AreWriters d
   pub scopes : All (λ (s : Scoped). IsScoped d s.object) d.scopes
+  -- each net and each variable is named
+  pub named : (o : Object) → IsObject d o → Contains (named_objects d) o
   pub small : IsSmall d
+  pub unit : IsUnit d.unit
 
 -- ---- environments
 -- an environment has one value of the right leaves for each net and each variable
 pub record IsEnvOf (d : Design) (env : Env) : Type 0 where
-  pub nets : map shape_of env.nets ≡ net_shapes d
-  pub vars : map shape_of env.vars ≡ var_shapes d
+  pub nets : AreValuesOf (net_shapes d) env.nets
+  pub vars : AreValuesOf (var_shapes d) env.vars
 
 -- elements of a resolver's argument: at most 1,024, all of one shape
 pub record AreElements (shape : List Leaf) (many : List Value) : Type 0 where
   pub few : length many ≤ 1024
-  pub same : All (λ v. shape_of v ≡ shape) many
+  pub same : All (IsValueOf shape) many
 
 -- the shape of the first element
 abbrev pub first_shape : List Value → List Leaf
@@ -259,19 +297,24 @@ first_shape (v ∷ vs) = shape_of v
 
 -- an expression takes an element of a resolver's argument only where there is one
 abbrev pub HasElements : List Value → Tree → Type 0
-HasElements [] tree = All (λ o. is_element o ≡ false) (others_of tree)
+HasElements [] tree = All (λ o. is_element o ≡ false) (sources_of tree)
 HasElements (v ∷ vs) tree = ⊤
 
--- an expression fits a design and an environment: each of its parts has the shape that its place asks for, and so has
--- each value
+-- what names stand for in an environment of a design
+abbrev pub env_scope : Design → Env → Scope
+env_scope d env = scope_with d (map shape_of env.locals) (Some (first_shape env.many))
+
+-- an expression fits a design and an environment: each of its parts has the shape that its place asks for, each value has
+-- its digits, and each function that is called uses only what is its own
 pub record Fits (d : Design) (env : Env) (tree : Tree) : Type 0 where
   pub objects : IsEnvOf d env
   pub many : AreElements (first_shape env.many) env.many
-  pub shape : IsSome (tree_shape (scope_with d (map shape_of env.locals) (Some (first_shape env.many))) tree)
+  pub locals : All (All IsFilled) env.locals
+  pub shape : IsSome (tree_shape (env_scope d env) tree)
   pub elements : HasElements env.many tree
 
 -- a function may be called with these values
-pub record MayCall (d : Design) (f : Function) (args : List Value) : Type 0 where
+pub record MayCall (f : Function) (args : List Value) : Type 0 where
   pub own : IsOwn f
-  pub shapes : f.many ≡ false → map shape_of args ≡ f.args
+  pub values : f.many ≡ false → AreValuesOf f.args args
   pub elements : (shape : List Leaf) → f.many ≡ true → f.args ≡ shape ∷ [] → AreElements shape args

@@ -1,4 +1,4 @@
--- Worlds that an expression can't tell apart.
+-- Worlds that an expression can't tell apart: its value is that of its operands (IEEE 1800-2017, clause 11).
 use Rattle.std.specs.Prelude.{◌≡◌, ℕ, Bool, true, List}
 use Rattle.nt_design.specs.Expressions.{World, Calls, object_in, value_of}
 use Rattle.nt_design.specs.Parts.{Value}

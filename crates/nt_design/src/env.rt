@@ -29,6 +29,17 @@ pub enum Stop {
     OutOfMemory(AllocError),
 }
 
+impl From<AllocError> for Stop {
+    ghost use Rattle.std.specs.Prelude.{◌≡◌};
+    ghost use Rattle.nt_design.specs.declared.env.Stop.TheVariants.{OutOfMemory};
+
+    ghost from_gives = { λ refused stop. stop ≡ OutOfMemory refused };
+
+    fn from(refused: AllocError) -> Stop {
+        Stop::OutOfMemory(refused)
+    }
+}
+
 /// The value of a constant in an environment of its design.
 ///
 /// # Errors
@@ -41,7 +52,7 @@ pub fn meaning(alloc: Global, design: &Design, tree: &Tree, env: &Env) -> Result
     ensures too_long { result ≡ Err Stop.TooLong → meaning design.now.functions env.now tree.now ≡ None }
 {
     match tree {
-        Tree::Const(value) => copy(alloc, value).map_err(Stop::OutOfMemory),
+        Tree::Const(value) => Ok(copy(alloc, value)?),
         _ => unreachable!(),
     }
 }

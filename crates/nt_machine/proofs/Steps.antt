@@ -2,17 +2,15 @@
 use Rattle.std.proofs.Common.{◌≡◌, ◌↔◌, ◌⊎◌, inl, inr, ℕ, zero, suc, ◌+◌, ◌<◌, ◌≤◌, Bool, true, false, not, ◌&&◌, ◌==◌, nat_lt, if◌then◌else◌, List, [], ◌∷◌, length, get_or, map, Option, Some, None, slice_get, IsSome, IsTrue, option_and_then, option_map, is_some, refl, sym, ◌∙◌, ap, subst, arith, lt-ltb, ltb-true, length-set}
 use Rattle.std.specs.List.{range_with_len}
 use Rattle.std.proofs.lemmas.Bool.{false≢true}
-use Rattle.std.proofs.Math.Seq.{map-set_same}
 use Rattle.std.proofs.lemmas.List.{length-map}
-use Rattle.std.proofs.Math.ListN.{get_or-map}
 use Rattle.std.proofs.lemmas.Option.{slice_get_within, slice_get-get_or, slice_get-map, get_or_from_slice_get, same_Some, none-some}
-use Rattle.nt_value.specs.Values.{shape_of, default_value}
+use Rattle.nt_value.specs.Values.{IsValueOf, shape_of, default_value}
 use Rattle.nt_value.specs.declared.leaf.Leaf.{Leaf}
 use Rattle.nt_design.specs.Expressions.{value_of}
 use Rattle.nt_design.specs.Meaning.{most_turns, meaning}
 use Rattle.nt_design.specs.Parts.{Value}
 use Rattle.nt_design.specs.Shapes.{target_shape, tree_shape, on_shape, slot_shape as shape_of_slot}
-use Rattle.nt_design.specs.WellFormed.{IsDesign, IsAssign, IsDriven, IsSlotOf, net_shapes, scope_with}
+use Rattle.nt_design.specs.WellFormed.{IsDesign, IsAssign, IsDriven, design_scope, net_shapes, scope_with}
 use Rattle.nt_design.specs.declared.design.Design.{Design}
 use Rattle.nt_design.specs.declared.env.Env.{Env}
 use Rattle.nt_design.specs.declared.function.Function.{Function}
@@ -26,13 +24,15 @@ use Rattle.nt_design.specs.declared.process.Proc.{Proc}
 use Rattle.nt_design.specs.declared.target.Target.{Target}
 use Rattle.nt_design.specs.declared.target.Target.TheVariants as target
 use Rattle.nt_design.proofs.Values.{value_const, meaning_of_const}
-use Rattle.nt_design.proofs.Constants.{shape_const}
+use Rattle.nt_design.proofs.Constants.{const_back}
+use Rattle.nt_design.proofs.Does.{value_set}
+use Rattle.nt_design.proofs.Results.{default_is}
 use Rattle.nt_semantics.specs.Same.{is_same, is_one_of}
 use Rattle.nt_semantics.specs.State.{MachineState, standing_at, work_at, count_at, value_at, net_shape, more, each_below, world_of_state}
 use Rattle.nt_semantics.specs.declared.standing.Standing.TheVariants.{Over}
 use Rattle.nt_semantics.specs.StateFits.{IsStateOf, slot_shape}
 use Rattle.nt_semantics.specs.Step.{step, is_pending_at, is_some_work, is_some_put, proc_step, update_step, only_if, in_turns, assign_step, resolve_step, drive, take_evaluation, take_resolution, set_net, contribution, is_order, is_order_of, net_value, in_order, is_pending}
-use Rattle.nt_semantics.proofs.Columns.{net_shape_there, slot_has, slot_of_net}
+use Rattle.nt_semantics.proofs.Columns.{net_shape_there, slot_has, slot_of_net, slot_shape_there}
 use Rattle.nt_semantics.specs.Wake.{wake, functions_of, reads_at, one_more_if, standing_after, work_after, waking_at}
 use Rattle.nt_design.specs.Plain.{IsPlain, IsConstantDriver, IsWholeSlot, net_of}
 use Rattle.nt_machine.specs.Plain.{IsPlainState, driven_plain, published_plain}
@@ -159,20 +159,20 @@ step_resolves d s n order net value plain still active here ordered is =
 -- ---- what a state has for each number of its design
 pub nets_long : (d : Design) (s : MachineState) → IsStateOf d s → length s.nets ≡ length d.nets
 nets_long d s of =
-    sym (length-map s.nets shape_of) ∙ ap (λ (l : List (List Leaf)). length l) of.nets ∙ length-map d.nets (λ (net : Net). net.shape)
+    sym (length-map s.nets shape_of) ∙ ap (λ (l : List (List Leaf)). length l) of.nets.leaves ∙ length-map d.nets (λ (net : Net). net.shape)
 
 pub slots_long : (d : Design) (s : MachineState) → IsStateOf d s → length s.slots ≡ length d.assigns
 slots_long d s of =
-    sym (length-map s.slots shape_of) ∙ ap (λ (l : List (List Leaf)). length l) of.slots ∙ length-map d.assigns (λ (assign : Assign). slot_shape d assign.target)
+    sym (length-map s.slots shape_of) ∙ ap (λ (l : List (List Leaf)). length l) of.slots.leaves ∙ length-map d.assigns (λ (assign : Assign). slot_shape d assign.target)
 
--- the net of a driver, and the driver's leaves
+-- the net of a driver, and the driver's value
 pub record DrivesNet (d : Design) (a : ℕ) (assign : Assign) (value : Value) : Type 0 where
   pub net : Net
   pub here : slice_get d.nets (net_of assign.target) ≡ Some net
-  pub leaves : shape_of value ≡ net.shape
+  pub is : IsValueOf net.shape value
   pub slot : slot_shape d assign.target ≡ net.shape
 
-drives_to : (d : Design) (a : ℕ) (t : Target) (leaves : List Leaf) → IsWholeSlot t → IsDriven d a t → target_shape (scope_with d [] None) t ≡ Some leaves → (net : Net) × (slice_get d.nets (net_of t) ≡ Some net) × (leaves ≡ net.shape) × (slot_shape d t ≡ net.shape)
+drives_to : (d : Design) (a : ℕ) (t : Target) (leaves : List Leaf) → IsWholeSlot t → IsDriven d.nets a t → target_shape (scope_with d [] None) t ≡ Some leaves → (net : Net) × (slice_get d.nets (net_of t) ≡ Some net) × (leaves ≡ net.shape) × (slot_shape d t ≡ net.shape)
 drives_to d a (target.Slot n slot low width) leaves whole driven is = (
   driven.0,
   driven.1,
@@ -192,14 +192,13 @@ drives_to d a (target.Slot n slot low width) leaves whole driven is = (
 drives_to d a (target.Var v path) leaves whole driven is = absurd whole
 drives_to d a (target.Local i path) leaves whole driven is = absurd whole
 
-pub drives_net : (d : Design) (a : ℕ) (assign : Assign) (c : IsConstantDriver assign) → IsAssign d a assign → DrivesNet d a assign c.constant.0
+pub drives_net : (d : Design) (a : ℕ) (assign : Assign) (c : IsConstantDriver assign) → IsAssign (design_scope d) d.nets a assign → DrivesNet d a assign c.constant.0
 drives_net d a assign c is =
     let to = drives_to d a assign.target is.shape.0 c.whole is.target is.shape.1 in
-    let tree : tree_shape (scope_with d [] None) assign.right ≡ Some (shape_of c.constant.0) = ap (tree_shape (scope_with d [] None)) c.constant.1 ∙ shape_const (scope_with d [] None) c.constant.0 in
     record {
       net = to.0;
       here = to.1;
-      leaves = same_Some (shape_of c.constant.0) is.shape.0 (sym tree ∙ is.shape.2) ∙ to.2;
+      is = subst (λ r. IsValueOf r c.constant.0) to.2 (const_back (scope_with d [] None) c.constant.0 is.shape.0 (sym (ap (tree_shape (scope_with d [] None)) c.constant.1) ∙ is.shape.2));
       slot = to.3;
     }
 
@@ -242,26 +241,20 @@ net_within d s n net is of here =
     }
 
 -- ---- what events keep
-shape_of_default : (shape : List Leaf) → shape_of (default_value shape) ≡ shape
-shape_of_default [] = refl
-shape_of_default (leaf ∷ leaves) = ap (λ (l : List Leaf). leaf ∷ l) (shape_of_default leaves)
-
 no_proc : (procs : List Proc) (p : ℕ) (proc : Proc) → procs ≡ [] → slice_get procs p ≡ Some proc → ⊥
 no_proc [] p proc h at = none-some proc at
 no_proc (x ∷ xs) p proc h at = let e = ap length h in omega (arith, e)
-
-value_has : (d : Design) (s : MachineState) (n : ℕ) → IsStateOf d s → shape_of (get_or s.nets n []) ≡ net_shape d n
-value_has d s n of = sym (get_or-map shape_of s.nets n []) ∙ ap (λ (l : List (List Leaf)). get_or l n []) of.nets
 
 pub evaluates_keeps : (d : Design) (s : MachineState) (a : ℕ) (assign : Assign) (c : IsConstantDriver assign) → IsDesign d → IsPlain d → IsStateOf d s → slice_get d.assigns a ≡ Some assign → IsStateOf d (driven_plain s a (net_of assign.target) c.constant.0)
 evaluates_keeps d s a assign c is plain of here = record {
   moment = of.moment;
   vars = of.vars;
   nets = of.nets;
-  slots = map-set_same shape_of s.slots a c.constant.0 [] same ∙ of.slots;
+  slots = value_set (map (λ (x : Assign). slot_shape d x.target) d.assigns) s.slots a c.constant.0 of.slots same;
   standings = of.standings;
   work = of.work;
   locals = of.locals;
+  locals_filled = of.locals_filled;
   fresh = of.fresh;
   evaluations = length-set s.evaluations a _ ∙ of.evaluations;
   resolutions = counts (is_same (value_at s.slots a) c.constant.0);
@@ -273,8 +266,9 @@ evaluates_keeps d s a assign c is plain of here = record {
     drives : DrivesNet d a assign c.constant.0
     drives = drives_net d a assign c (is.assigns a assign here)
 
-    same : shape_of c.constant.0 ≡ shape_of (get_or s.slots a [])
-    same = drives.leaves ∙ sym drives.slot ∙ sym (slot_has d s a assign of here)
+    same : IsValueOf (get_or (map (λ (x : Assign). slot_shape d x.target) d.assigns) a []) c.constant.0
+    same =
+        subst (λ r. IsValueOf r c.constant.0) (sym drives.slot ∙ sym (slot_shape_there d a assign here)) drives.is
 
     counts : (b : Bool) → length (if b then s.resolutions else more s.resolutions (net_of assign.target)) ≡ length d.nets
     counts true = of.resolutions
@@ -306,29 +300,28 @@ net_value_some d kind shape values h =
     some [] = (default_value shape, refl)
     some (v ∷ vs) = (v, refl)
 
-resolved_shape : (d : Design) (s : MachineState) (n : ℕ) (net : Net) (order : List ℕ) (value : Value) → IsDesign d → IsPlain d → IsStateOf d s → slice_get d.nets n ≡ Some net → is_order (length net.slots) order ≡ true → net_value d net.kind net.shape (in_order s.slots net.slots order) ≡ Some value → shape_of value ≡ net.shape
+resolved_shape : (d : Design) (s : MachineState) (n : ℕ) (net : Net) (order : List ℕ) (value : Value) → IsDesign d → IsPlain d → IsStateOf d s → slice_get d.nets n ≡ Some net → is_order (length net.slots) order ≡ true → net_value d net.kind net.shape (in_order s.slots net.slots order) ≡ Some value → IsValueOf net.shape value
 resolved_shape d s n net order value is plain of here ordered value_is =
     by_order order ordered (subst (λ k. net_value d k net.shape (in_order s.slots net.slots order) ≡ Some value) (plain.nets n net here) value_is)
   where
-    by_order : (order : List ℕ) → is_order (length net.slots) order ≡ true → net_value d Unresolved net.shape (in_order s.slots net.slots order) ≡ Some value → shape_of value ≡ net.shape
-    by_order [] ok h = ap (λ (x : Value). shape_of x) (sym (same_Some (default_value net.shape) value h)) ∙ shape_of_default net.shape
+    by_order : (order : List ℕ) → is_order (length net.slots) order ≡ true → net_value d Unresolved net.shape (in_order s.slots net.slots order) ≡ Some value → IsValueOf net.shape value
+    by_order [] ok h = subst (IsValueOf net.shape) (same_Some (default_value net.shape) value h) (default_is net.shape)
     by_order (first ∷ rest) ok h =
         let below = first_below (length net.slots) first rest ok in
         let drives = (is.nets n net here).driven first (get_or net.slots first 0) (slice_get-get_or net.slots first 0 below) in
-        ap (λ (x : Value). shape_of x) (sym (same_Some (value_at s.slots (get_or net.slots first 0)) value h))
-        ∙ slot_has d s (get_or net.slots first 0) drives.0 of drives.1
-        ∙ slot_of_net d n first (drives.0).target drives.2
-        ∙ net_shape_there d n net here
+        subst (IsValueOf net.shape) (same_Some (value_at s.slots (get_or net.slots first 0)) value h)
+        (subst (λ r. IsValueOf r (value_at s.slots (get_or net.slots first 0))) (slot_of_net d n first (drives.0).target drives.2 ∙ net_shape_there d n net here) (slot_has d s (get_or net.slots first 0) drives.0 of drives.1))
 
 pub resolves_keeps : (d : Design) (s : MachineState) (n : ℕ) (net : Net) (order : List ℕ) (value : Value) → IsDesign d → IsPlain d → IsStateOf d s → slice_get d.nets n ≡ Some net → is_order (length net.slots) order ≡ true → net_value d net.kind net.shape (in_order s.slots net.slots order) ≡ Some value → IsStateOf d (published_plain s n value)
 resolves_keeps d s n net order value is plain of here ordered value_is = record {
   moment = of.moment;
   vars = of.vars;
-  nets = map-set_same shape_of s.nets n value [] (resolved_shape d s n net order value is plain of here ordered value_is ∙ sym (net_shape_there d n net here) ∙ sym (value_has d s n of)) ∙ of.nets;
+  nets = value_set (net_shapes d) s.nets n value of.nets (subst (λ r. IsValueOf r value) (sym (net_shape_there d n net here)) (resolved_shape d s n net order value is plain of here ordered value_is));
   slots = of.slots;
   standings = of.standings;
   work = of.work;
   locals = of.locals;
+  locals_filled = of.locals_filled;
   fresh = of.fresh;
   evaluations = of.evaluations;
   resolutions = length-set s.resolutions n _ ∙ of.resolutions;

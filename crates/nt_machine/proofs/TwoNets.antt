@@ -3,18 +3,20 @@ use Rattle.std.proofs.Common.{◌≡◌, ℕ, zero, suc, ◌≤◌, ◌<◌, Lis
 use Rattle.std.specs.List.{Contains}
 use Rattle.std.proofs.lemmas.List.Elements.{All-nil, All-cons}
 use Rattle.std.proofs.lemmas.Option.{same_Some, none-some}
-use Rattle.nt_value.specs.Values.{shape_of}
+use Rattle.nt_value.specs.Units.{IsUnit}
+use Rattle.nt_value.specs.Values.{IsValueOf}
 use Rattle.nt_value.specs.declared.leaf.Leaf.{Leaf}
 use Rattle.nt_value.specs.declared.unit.Unit.{Unit as TimeUnit}
 use Rattle.nt_design.specs.Parts.{Value}
 use Rattle.nt_design.specs.Plain.{IsPlain, IsConstantDriver, IsWholeSlot}
 use Rattle.nt_design.specs.Reads.{reads_of, has_time}
 use Rattle.nt_design.specs.Shapes.{target_shape, tree_shape}
-use Rattle.nt_design.specs.WellFormed.{IsDesign, IsNet, IsKind, IsAssign, IsDriven, IsChain, IsScoped, Drives, Assigns, IsSlotOf, Lists, called_by, scope_with}
+use Rattle.nt_design.specs.WellFormed.{IsDesign, IsNet, IsKind, IsAssign, IsDriven, IsChain, IsObject, IsScoped, Drives, Assigns, IsSlotOf, Lists, called_by, design_scope, scope_with}
 use Rattle.nt_design.specs.declared.design.Design.{Design}
 use Rattle.nt_design.specs.declared.design.Scoped.{Scoped}
 use Rattle.nt_design.specs.declared.object.Net.{Net}
 use Rattle.nt_design.specs.declared.object.NetKind.TheVariants.{Unresolved}
+use Rattle.nt_design.specs.declared.object.Object.{Object}
 use Rattle.nt_design.specs.declared.object.Object.TheVariants as object
 use Rattle.nt_design.specs.declared.process.Assign.{Assign}
 use Rattle.nt_design.specs.declared.target.Target.TheVariants.{Slot, Var as VarTarget}
@@ -46,7 +48,7 @@ no_chain d [] none chain = omega arith
 no_chain d (f ∷ []) none chain = omega arith
 no_chain d (f ∷ g ∷ fs) none chain = absurd (no_member g (subst (λ functions. Contains (called_by (slice_get functions f)) g) none chain.0))
 
-module _ (driven floating : Net) (assign : Assign) (first_name second_name : List ℕ) (unit : TimeUnit) (value : Value) (driver : driven.slots ≡ 0 ∷ []) (free : floating.slots ≡ []) (kind : driven.kind ≡ Unresolved) (other_kind : floating.kind ≡ Unresolved) (target : assign.target ≡ Slot 0 0 0 0) (right : assign.right ≡ Const value) (reads : assign.reads ≡ []) (shape : shape_of value ≡ driven.shape) where
+module _ (driven floating : Net) (assign : Assign) (first_name second_name : List ℕ) (unit : TimeUnit) (value : Value) (driver : driven.slots ≡ 0 ∷ []) (free : floating.slots ≡ []) (kind : driven.kind ≡ Unresolved) (other_kind : floating.kind ≡ Unresolved) (target : assign.target ≡ Slot 0 0 0 0) (right : assign.right ≡ Const value) (reads : assign.reads ≡ []) (shape : IsValueOf driven.shape value) (unit_fits : IsUnit unit) where
   abbrev design : Design
   design = joined driven floating assign first_name second_name unit
 
@@ -82,16 +84,16 @@ module _ (driven floating : Net) (assign : Assign) (first_name second_name : Lis
       let right_reads : reads_of assign.right ≡ [] = ap reads_of right ∙ reads_const value in
       (λ h. subst (λ l. Contains l o) (sym right_reads) (subst (λ l. Contains l o) reads h), λ h. subst (λ l. Contains l o) (sym reads) (subst (λ l. Contains l o) right_reads h))
 
-  driver_fits : IsAssign design 0 assign
+  driver_fits : IsAssign (design_scope design) design.nets 0 assign
   driver_fits = record {
-    target = subst (IsDriven design 0) (sym target) (driven, refl, subst (λ (l : List ℕ). slice_get l 0 ≡ Some 0) (sym driver) refl, inr (refl, refl));
-    shape = (driven.shape, ap (target_shape (scope_with design [] None)) target, ap (tree_shape (scope_with design [] None)) right ∙ shape_const (scope_with design [] None) value ∙ ap (λ (s : List Leaf). Some s) shape);
+    target = subst (IsDriven design.nets 0) (sym target) (driven, refl, subst (λ (l : List ℕ). slice_get l 0 ≡ Some 0) (sym driver) refl, inr (refl, refl));
+    shape = (driven.shape, ap (target_shape (scope_with design [] None)) target, ap (tree_shape (scope_with design [] None)) right ∙ shape_const (scope_with design [] None) value shape.filled ∙ ap (λ (s : List Leaf). Some s) shape.leaves);
     no_time = ap has_time right ∙ time_const value;
     reads = lists_nothing;
   }
 
-  is_assign : (a : ℕ) (other : Assign) → slice_get (assign ∷ []) a ≡ Some other → IsAssign design a other
-  is_assign zero other at = subst (λ (m : Assign). IsAssign design 0 m) (same_Some assign other at) driver_fits
+  is_assign : (a : ℕ) (other : Assign) → slice_get (assign ∷ []) a ≡ Some other → IsAssign (design_scope design) design.nets a other
+  is_assign zero other at = subst (λ (m : Assign). IsAssign (design_scope design) design.nets 0 m) (same_Some assign other at) driver_fits
   is_assign (suc a) other at = absurd (none-some other at)
 
   no_variable : (a v : ℕ) → Assigns design a v → ⊥
@@ -106,13 +108,14 @@ module _ (driven floating : Net) (assign : Assign) (first_name second_name : Lis
     procs = λ p proc at. absurd (none-some proc at);
     assigns = is_assign;
     functions = λ f function at. absurd (none-some function at);
-    called = λ f function called at. absurd (none-some function at);
     writers = record {
       one_assign = λ a b v p q. absurd (no_variable a v p);
       no_write = λ a p v x y. no_variable a v x;
       one_writer = λ p q v sole x y. absurd (none-some sole.0 sole.1);
     };
     scopes = All-cons (λ (s : Scoped). IsScoped design s.object) (named first_name 0) (named second_name 1 ∷ []) below_0 (All-cons (λ (s : Scoped). IsScoped design s.object) (named second_name 1) [] below_1 (All-nil (λ (s : Scoped). IsScoped design s.object)));
+    named = names;
+    unit = unit_fits;
     small = record {
       nets = omega arith;
       vars = omega arith;
@@ -126,6 +129,12 @@ module _ (driven floating : Net) (assign : Assign) (first_name second_name : Lis
 
       below_1 : 1 < 2
       below_1 = omega arith
+
+      names : (o : Object) → IsObject design o → Contains (object.Net 0 ∷ object.Net 1 ∷ []) o
+      names (object.Var v) below = absurd (omega (arith, below))
+      names (object.Net zero) below = (0, omega arith, refl)
+      names (object.Net (suc zero)) below = (1, omega arith, refl)
+      names (object.Net (suc (suc n))) below = absurd (omega (arith, below))
 
   net_kind : (n : ℕ) (net : Net) → slice_get (driven ∷ floating ∷ []) n ≡ Some net → net.kind ≡ Unresolved
   net_kind zero net at = ap (λ (x : Net). x.kind) (sym (same_Some driven net at)) ∙ kind

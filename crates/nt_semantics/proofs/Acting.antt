@@ -7,7 +7,7 @@ use Rattle.nt_semantics.specs.Execution.{is_active}
 use Rattle.nt_semantics.specs.State.{MachineState, standing_at, count_at}
 use Rattle.nt_semantics.specs.declared.standing.Standing.TheVariants.{Over}
 use Rattle.nt_semantics.specs.Step.{step, only_if, update_step, is_pending_at, is_some_put}
-use Rattle.nt_semantics.specs.declared.deed.Put.{Put}
+use Rattle.nt_design.specs.declared.put.Put.{Put}
 use Rattle.nt_semantics.specs.declared.event.Event.{Event}
 use Rattle.nt_semantics.specs.declared.event.Event.TheVariants.{Stmt, Assign as AssignEvent, Update, Resolve}
 

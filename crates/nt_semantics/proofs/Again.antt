@@ -30,12 +30,12 @@ use Rattle.nt_design.specs.declared.target.Target.TheVariants as target
 use Rattle.nt_semantics.proofs.Sames.{values_decide}
 use Rattle.nt_semantics.specs.Laws.{without, AgainChangesNothing}
 use Rattle.nt_semantics.specs.StateFits.{IsStateOf, slot_shape}
-use Rattle.nt_semantics.specs.Puts.{after_put, leaves_put}
+use Rattle.nt_design.specs.Puts.{after_put, leaves_put}
 use Rattle.nt_semantics.specs.Same.{is_same, is_same_object}
 use Rattle.nt_semantics.specs.State.{MachineState, value_at, count_at, net_shape, more, world_of_state}
 use Rattle.nt_semantics.specs.Step.{step, set_net, put_var, resolve_step, take_resolution, only_if, is_order, in_order, net_value, drive, contribution, take_evaluation, assign_step, in_turns}
 use Rattle.nt_semantics.specs.Wake.{wake, functions_of}
-use Rattle.nt_semantics.specs.declared.deed.Put.{Put}
+use Rattle.nt_design.specs.declared.put.Put.{Put}
 use Rattle.nt_semantics.specs.declared.event.Event.TheVariants.{Stmt, Assign as AssignEvent, Update, Resolve}
 
 true_false : true ≡ false → ⊥
@@ -233,12 +233,12 @@ has_shape shapes v go leaves h = of_shape (slice_get shapes v) refl h
 room_of : (d : Design) (s : MachineState) (a : ℕ) (assign : Assign) → IsDesign d → IsStateOf d s → slice_get d.assigns a ≡ Some assign → Room d s a assign
 room_of d s a assign design is here = record {
   slot =
-      let slots = same_length s.slots (map (λ (x : Assign). slot_shape d x.target) d.assigns) is.slots ∙ length-map d.assigns (λ (x : Assign). slot_shape d x.target) in
+      let slots = same_length s.slots (map (λ (x : Assign). slot_shape d x.target) d.assigns) is.slots.leaves ∙ length-map d.assigns (λ (x : Assign). slot_shape d x.target) in
       subst (λ k. a < k) (sym slots) (slice_get_within d.assigns a assign here);
   var = λ v path to.
       let shape = (design.assigns a assign here).shape in
       let there = has_shape (var_shapes d) v (path_shape (scope_with d [] None) path) shape.0 (subst (λ (x : Target). target_shape (scope_with d [] None) x ≡ Some shape.0) to shape.1) in
-      subst (λ k. v < k) (sym (same_length s.vars (var_shapes d) is.vars)) there;
+      subst (λ k. v < k) (sym (same_length s.vars (var_shapes d) is.vars.leaves)) there;
 }
 
 own_at : (assigns : List Assign) (a : ℕ) (assign : Assign) → slice_get assigns a ≡ Some assign → get_or (map (λ (x : Assign). reads_target x x.target) assigns) a false ≡ reads_target assign assign.target
@@ -272,5 +272,5 @@ again d s t (Resolve n order) design is may h left =
     of_net false o here g = absurd (none_some t g)
     of_net true None here g = absurd (none_some t g)
     of_net true (Some net) here g =
-        let nets = same_length s.nets (net_shapes d) is.nets ∙ length-map d.nets (λ (x : Net). x.shape) in
+        let nets = same_length s.nets (net_shapes d) is.nets.leaves ∙ length-map d.nets (λ (x : Net). x.shape) in
         resolve_again d n order s t net (subst (λ k. n < k) (sym nets) (slice_get_within d.nets n net here)) here g left

@@ -8,7 +8,7 @@ use Rattle.nt_semantics.specs.Execution.{is_over, is_active, has_inactive, activ
 use Rattle.nt_semantics.specs.State.{MachineState, standing_at, count_at}
 use Rattle.nt_semantics.specs.StateFits.{AtMost}
 use Rattle.nt_semantics.specs.Step.{is_pending_at, is_some_put}
-use Rattle.nt_semantics.specs.declared.deed.Put.{Put}
+use Rattle.nt_design.specs.declared.put.Put.{Put}
 use Rattle.nt_semantics.specs.declared.event.Event.TheVariants.{Stmt, Assign as AssignEvent, Update, Resolve}
 use Rattle.nt_semantics.specs.Slots.{Few}
 use Rattle.nt_semantics.specs.Laws.{SlotsBeginSmall}

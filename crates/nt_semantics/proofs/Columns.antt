@@ -1,9 +1,8 @@
 -- What stands in the columns of a state at the number of a net or of an assignment.
-use Rattle.std.proofs.Common.{◌≡◌, ℕ, List, [], get_or, map, Some, slice_get, option_map, sym, ◌∙◌, ap}
-use Rattle.std.proofs.Math.ListN.{get_or-map}
+use Rattle.std.proofs.Common.{◌≡◌, ℕ, [], get_or, map, Some, slice_get, option_map, ◌∙◌, ap, subst}
 use Rattle.std.proofs.lemmas.Option.{slice_get-map, get_or_from_slice_get}
-use Rattle.nt_value.specs.Values.{shape_of}
-use Rattle.nt_value.specs.declared.leaf.Leaf.{Leaf}
+use Rattle.nt_value.specs.Values.{IsValueOf}
+use Rattle.nt_design.proofs.Does.{value_there}
 use Rattle.nt_design.specs.WellFormed.{IsSlotOf, net_shapes}
 use Rattle.nt_design.specs.declared.design.Design.{Design}
 use Rattle.nt_design.specs.declared.object.Net.{Net}
@@ -17,12 +16,15 @@ pub net_shape_there : (d : Design) (n : ℕ) (net : Net) → slice_get d.nets n 
 net_shape_there d n net here =
     get_or_from_slice_get (net_shapes d) n net.shape [] (slice_get-map (λ (net : Net). net.shape) d.nets n ∙ ap (option_map (λ (net : Net). net.shape)) here)
 
--- the leaves of an assignment's slot in a state
-pub slot_has : (d : Design) (s : MachineState) (a : ℕ) (assign : Assign) → IsStateOf d s → slice_get d.assigns a ≡ Some assign → shape_of (get_or s.slots a []) ≡ slot_shape d assign.target
+pub slot_shape_there : (d : Design) (a : ℕ) (assign : Assign) → slice_get d.assigns a ≡ Some assign → get_or (map (λ (assign : Assign). slot_shape d assign.target) d.assigns) a [] ≡ slot_shape d assign.target
+slot_shape_there d a assign here =
+    get_or_from_slice_get (map (λ (assign : Assign). slot_shape d assign.target) d.assigns) a (slot_shape d assign.target) [] (slice_get-map (λ (assign : Assign). slot_shape d assign.target) d.assigns a ∙ ap (option_map (λ (assign : Assign). slot_shape d assign.target)) here)
+
+-- the shape of an assignment's slot in a state
+pub slot_has : (d : Design) (s : MachineState) (a : ℕ) (assign : Assign) → IsStateOf d s → slice_get d.assigns a ≡ Some assign → IsValueOf (slot_shape d assign.target) (get_or s.slots a [])
 slot_has d s a assign of here =
-    sym (get_or-map shape_of s.slots a [])
-    ∙ ap (λ (l : List (List Leaf)). get_or l a []) of.slots
-    ∙ get_or_from_slice_get (map (λ (assign : Assign). slot_shape d assign.target) d.assigns) a (slot_shape d assign.target) [] (slice_get-map (λ (assign : Assign). slot_shape d assign.target) d.assigns a ∙ ap (option_map (λ (assign : Assign). slot_shape d assign.target)) here)
+    subst (λ r. IsValueOf r (get_or s.slots a [])) (slot_shape_there d a assign here)
+    (value_there (map (λ (assign : Assign). slot_shape d assign.target) d.assigns) s.slots a of.slots)
 
 -- the slot of a driver has the leaves of the net that lists it
 pub slot_of_net : (d : Design) (n slot : ℕ) (t : Target) → IsSlotOf n slot t → slot_shape d t ≡ net_shape d n

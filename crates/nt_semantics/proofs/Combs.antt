@@ -21,7 +21,7 @@ use Rattle.nt_design.specs.declared.tree.Tree.TheViews as view
 use Rattle.nt_semantics.proofs.Equations.{to_do_assign, step_assign, proc_steps}
 use Rattle.nt_semantics.proofs.Examples.{here, int_var, initial, run_one}
 use Rattle.nt_semantics.specs.Execution.{run, settle, is_active, IsComplete}
-use Rattle.nt_semantics.specs.Puts.{after_put, leaves_put}
+use Rattle.nt_design.specs.Puts.{after_put, leaves_put}
 use Rattle.nt_semantics.specs.Same.{is_same}
 use Rattle.nt_semantics.specs.State.{MachineState, start_state, world_of_state}
 use Rattle.nt_semantics.specs.declared.standing.Standing.{Standing}

@@ -20,7 +20,7 @@ use Rattle.nt_design.specs.declared.tree.Tree as tree
 use Rattle.nt_design.specs.declared.tree.Tree.{Tree}
 use Rattle.nt_semantics.proofs.Equations.{to_do_block, to_do_nonblocking, to_do_assign, to_do_delay, step_assign, step_nonblocking, step_delay, proc_steps}
 use Rattle.nt_semantics.specs.Execution.{run, settle, is_active, IsComplete, expansion}
-use Rattle.nt_semantics.specs.Puts.{after_put, leaves_put}
+use Rattle.nt_design.specs.Puts.{after_put, leaves_put}
 use Rattle.nt_semantics.specs.Same.{is_same}
 use Rattle.nt_semantics.specs.State.{MachineState, start_state, value_at, world_of_state}
 use Rattle.nt_semantics.specs.declared.standing.Standing.{Standing}
@@ -30,7 +30,7 @@ use Rattle.nt_semantics.specs.declared.work.Work.TheVariants.{Do}
 use Rattle.nt_semantics.specs.Statements.{work_step}
 use Rattle.nt_semantics.specs.Step.{step, make_step, put_var}
 use Rattle.nt_semantics.specs.Wake.{wake, functions_of}
-use Rattle.nt_semantics.specs.declared.deed.Put.{Put}
+use Rattle.nt_design.specs.declared.put.Put.{Put}
 use Rattle.nt_semantics.specs.declared.deed.Deed.TheVariants as deed
 use Rattle.nt_semantics.specs.declared.event.Event.{Event}
 use Rattle.nt_semantics.specs.declared.event.Event.TheVariants.{Stmt, Update}

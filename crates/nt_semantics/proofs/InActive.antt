@@ -9,7 +9,7 @@ use Rattle.nt_semantics.specs.Laws.{OnlyPending}
 use Rattle.nt_semantics.specs.State.{MachineState, standing_at, work_at, count_at}
 use Rattle.nt_semantics.specs.declared.work.Work.{Work}
 use Rattle.nt_semantics.specs.Step.{step, is_pending, is_pending_at, only_if, proc_step, update_step, resolve_step, assign_step, is_some_work, is_some_put, is_order_of}
-use Rattle.nt_semantics.specs.declared.deed.Put.{Put}
+use Rattle.nt_design.specs.declared.put.Put.{Put}
 use Rattle.nt_semantics.specs.declared.event.Event.TheVariants.{Stmt, Assign as AssignEvent, Update, Resolve}
 
 true_false : true ≡ false → ⊥

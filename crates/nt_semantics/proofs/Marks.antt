@@ -23,7 +23,7 @@ use Rattle.nt_semantics.proofs.Equations.{to_do_delay, to_do_assign, step_assign
 use Rattle.nt_semantics.proofs.Examples.{int_var, initial, run_one}
 use Rattle.nt_semantics.proofs.Sums.{here, sum, sum_is}
 use Rattle.nt_semantics.specs.Execution.{run, settle, is_active, IsComplete, expansion}
-use Rattle.nt_semantics.specs.Puts.{after_put, leaves_put}
+use Rattle.nt_design.specs.Puts.{after_put, leaves_put}
 use Rattle.nt_semantics.specs.Same.{is_same}
 use Rattle.nt_semantics.specs.State.{MachineState, start_state, world_of_state}
 use Rattle.nt_semantics.specs.declared.standing.Standing.{Standing}

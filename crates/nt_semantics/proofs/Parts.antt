@@ -9,7 +9,7 @@ use Rattle.std.proofs.lemmas.List.Elements.{All-append, All-cons, All-head, All-
 use Rattle.nt_design.specs.Reads.{act_calls, act_parts, act_reads, act_writes, called_step, calls_of, own_trees, reads_of, targets_of, targets_step, trees_of, trees_step, written_vars}
 use Rattle.nt_design.specs.Rules.{act_fits, arm_fits, fits_step}
 use Rattle.nt_design.specs.Shapes.{Scope, Shaped}
-use Rattle.nt_design.specs.WellFormed.{IsProc, scope_with}
+use Rattle.nt_design.specs.WellFormed.{IsProc, design_scope, scope_with}
 use Rattle.nt_design.specs.declared.act.Act.{Act, out-Act}
 use Rattle.nt_design.specs.declared.act.Act.TheOpen.{Act-F}
 use Rattle.nt_design.specs.declared.act.Act.TheFolds.{fold-Act, fold_out-Act, map-Act}
@@ -306,7 +306,7 @@ part_of_body {d} {proc} whole a p = of_part proc.body a whole p
         subst (ActSound d proc) inside.2 ((part_sound (of_part body a sound p) (out-Act a) refl).parts inside.0 b inside.1)
 
 -- the body of a procedure of a design
-pub body_of_proc : (d : Design) (proc : Proc) → IsProc d proc → ActSound d proc proc.body
+pub body_of_proc : (d : Design) (proc : Proc) → IsProc (design_scope d) proc → ActSound d proc proc.body
 body_of_proc d proc is = record { part = Whole; fits = is.fits; uses = λ v x. x; calls = λ f x. x }
 
 -- what holds of what each has holds of what they have together

@@ -1,14 +1,14 @@
 -- What a step of a procedure keeps: a state of a design.
 use Rattle.std.proofs.Common.{◌≡◌, ℕ, zero, suc, ◌<◌, ◌≤◌, ◌^◌, ◌||◌, Bool, true, false, not, ◌&&◌, ◌==◌, if◌then◌else◌, List, [], ◌∷◌, ◌++◌, map, length, get_or, refl, ap, sym, subst, ◌∙◌, arith, length-set}
-use Rattle.std.specs.Prelude.{All, Contains, ⊤, Option, Some, None, slice_get, slice_set, option_map, option_to_list}
+use Rattle.std.specs.Prelude.{All, ⊤, Option, Some, None, slice_get, slice_set, option_map, option_to_list}
 use Rattle.std.specs.List.{flat_map}
 use Rattle.std.proofs.Math.Seq.{map-set_same}
 use Rattle.std.proofs.Math.ListN.{get_or-map}
 use Rattle.std.proofs.lemmas.Bool.{and_parts, eqb-true, eq-eqb, false≢true}
 use Rattle.std.proofs.lemmas.List.{length-map, get_or-set_same, get_or-set_other}
-use Rattle.std.proofs.lemmas.List.Elements.{All-append, All-cons, All-head, All-nil, All-tail, Contains-append_left}
+use Rattle.std.proofs.lemmas.List.Elements.{All-append, All-cons, All-head, All-nil, All-set, All-tail}
 use Rattle.std.proofs.lemmas.Option.{slice_get_within, slice_get-map, get_or_from_slice_get, same_Some, none-some}
-use Rattle.nt_value.specs.Values.{shape_of}
+use Rattle.nt_value.specs.Values.{AreValuesOf, IsValueOf, shape_of}
 use Rattle.nt_value.specs.declared.digit.Digit.{Digit}
 use Rattle.nt_value.specs.declared.digit.Digit.TheVariants.{Zero, One, X, Z}
 use Rattle.nt_value.specs.declared.kind.Edge.{Edge}
@@ -17,33 +17,34 @@ use Rattle.nt_design.specs.Expressions.{value_of, values_of}
 use Rattle.nt_design.specs.Fitting.{Gives, LocalsFit}
 use Rattle.nt_design.specs.Meaning.{most_turns}
 use Rattle.nt_design.specs.Parts.{Value, int_leaf, number_in, test_of, written}
-use Rattle.nt_design.specs.Reads.{act_calls, calls_of as called_by, event_trees, pick_trees, target_trees}
+use Rattle.nt_design.specs.Reads.{event_trees, pick_trees, target_trees}
 use Rattle.nt_design.specs.Rules.{act_fits, bounds_fit, is_delay, is_local}
 use Rattle.nt_design.specs.Shapes.{Scope, Shaped, is_both, is_leaf, is_shape, path_shape, target_shape, tree_shape}
 use Rattle.nt_design.specs.Statements.{count_of, is_among, path_of}
 use Rattle.nt_design.specs.Turns.{Timed, Timing, all_of, and_then, pick}
-use Rattle.nt_design.specs.WellFormed.{IsDesign, function_calls, scope_with, var_shapes}
+use Rattle.nt_design.specs.WellFormed.{IsDesign, scope_with, var_shapes}
 use Rattle.nt_design.specs.declared.act.Act.{Act, out-Act}
 use Rattle.nt_design.specs.declared.act.Act.TheOpen.{Act-F}
 use Rattle.nt_design.specs.declared.design.Design.{Design}
-use Rattle.nt_design.specs.declared.process.Assign.{Assign}
 use Rattle.nt_design.specs.declared.process.Proc.{Proc}
 use Rattle.nt_design.specs.declared.target.Pick.{Pick}
 use Rattle.nt_design.specs.declared.target.Target.{Target}
 use Rattle.nt_design.specs.declared.target.Target.TheVariants as target
 use Rattle.nt_design.specs.declared.tree.Tree.{Tree}
-use Rattle.nt_design.proofs.CallsFrame.{in_flat}
-use Rattle.nt_design.proofs.Results.{Called, in_list, path_has, value_has}
+use Rattle.nt_design.proofs.Does.{locals_fit, value_set}
+use Rattle.nt_design.proofs.Filled.{Filled, all_at, all_none, int_filled}
+use Rattle.nt_design.specs.Fitting.{Leads}
+use Rattle.nt_design.proofs.Results.{path_has, value_has}
 use Rattle.nt_design.proofs.Shaped.{gives_if, gives_pick, gives_then, is_shape_back, on_shape_back}
-use Rattle.nt_design.proofs.Writes.{Leads, written_has}
+use Rattle.nt_design.proofs.Writes.{written_is}
 use Rattle.nt_semantics.proofs.Delays.{delay_small}
 use Rattle.nt_semantics.proofs.EventKeeps.{outside, turns_give}
-use Rattle.nt_semantics.proofs.Parts.{ActSound, PartsSound, TreeSound, all_inside, all_left, all_right, body_of_proc, part_of_body, part_sound}
+use Rattle.nt_semantics.proofs.Parts.{ActSound, PartsSound, TreeSound, all_left, all_right, body_of_proc, part_of_body, part_sound}
 use Rattle.nt_semantics.proofs.StartFitting.{begins}
 use Rattle.nt_semantics.proofs.ValueKeeps.{put_keeps, put_of_fits, var_has}
 use Rattle.nt_semantics.proofs.WakeKeeps.{ItemSound, Sound, proc_fits, proc_sound, sound_append, sound_cons, sound_do, sound_do_all, sound_head, sound_one, sound_or_nothing, sound_tail, values_long}
 use Rattle.nt_semantics.specs.Lines.{line_of}
-use Rattle.nt_semantics.specs.Puts.{put_of}
+use Rattle.nt_design.specs.Puts.{put_of}
 use Rattle.nt_semantics.specs.State.{MachineState, going_on, standing_at, work_at, locals_at, to_do, value_at, var_shape, world_of_state}
 use Rattle.nt_semantics.specs.declared.standing.Standing.TheVariants.{Over}
 use Rattle.nt_semantics.specs.declared.work.Work.{Work}
@@ -54,7 +55,7 @@ use Rattle.nt_semantics.specs.Step.{lines_shown, finishes, locals_after, do_deed
 use Rattle.nt_semantics.specs.Wake.{functions_of}
 use Rattle.nt_semantics.specs.declared.deed.Deed.{Deed}
 use Rattle.nt_semantics.specs.declared.deed.Deed.TheVariants as deed
-use Rattle.nt_semantics.specs.declared.deed.Put.{Put}
+use Rattle.nt_design.specs.declared.put.Put.{Put}
 
 -- ---- where a procedure goes on
 going_fits : (moment : ℕ) (items : List Work) → StandingFits moment items (going_on items)
@@ -72,7 +73,7 @@ abbrev DeedFits : Design → List Value → Deed → List Work → Type 0
 DeedFits d locals deed.GoesOn items = ⊤
 DeedFits d locals (deed.Writes put) items = PutFits d put
 DeedFits d locals (deed.Schedules put) items = PutFits d put
-DeedFits d locals (deed.SetsLocal i value) items = shape_of value ≡ shape_of (get_or locals i [])
+DeedFits d locals (deed.SetsLocal i value) items = IsValueOf (shape_of (get_or locals i [])) value
 DeedFits d locals (deed.Delays amount) items = HasWork items × (amount ≤ 2 ^ 48)
 DeedFits d locals (deed.Waits kept) items = WaitsFor kept items
 DeedFits d locals (deed.Displays line) items = ⊤
@@ -131,8 +132,8 @@ both_back : (o p : Shaped) → is_both o p ≡ true → (s : List Leaf) × (o �
 both_back None p h = absurd (false≢true h)
 both_back (Some s) p h = (s, refl, is_shape_back p s h)
 
-module _ (d : Design) (proc : Proc) (s : MachineState) (of : IsStateOf d s) (locals : List Value) (own : map shape_of locals ≡ proc.locals) (whole : ActSound d proc proc.body)
-    (values : (t : Tree) (r : List Leaf) → TreeSound d proc t → tree_shape (scope_with d proc.locals None) t ≡ Some r → (left : ℕ) → Gives (value_of (functions_of d) (world_of_state s) t locals left) (λ v. shape_of v ≡ r))
+module _ (d : Design) (proc : Proc) (s : MachineState) (of : IsStateOf d s) (locals : List Value) (own : AreValuesOf proc.locals locals) (whole : ActSound d proc proc.body)
+    (values : (t : Tree) (r : List Leaf) → TreeSound d proc t → tree_shape (scope_with d proc.locals None) t ≡ Some r → (left : ℕ) → Gives (value_of (functions_of d) (world_of_state s) t locals left) (IsValueOf r))
     (paths : (path : List Pick) (r w : List Leaf) → All (TreeSound d proc) (flat_map pick_trees path) → path_shape (scope_with d proc.locals None) path r ≡ Some w → (left : ℕ) → Gives (path_of (functions_of d) (world_of_state s) path locals left) (λ steps. Leads steps r w)) where
   abbrev scope : Scope
   scope = scope_with d proc.locals None
@@ -149,9 +150,8 @@ module _ (d : Design) (proc : Proc) (s : MachineState) (of : IsStateOf d s) (loc
   after {A} m go next = gives_then m go (λ (x : A). ⊤) Well (any_gives m) (λ x l u. next x l)
 
   -- ---- assignments
-  local_there : (i : ℕ) (r : List Leaf) → slice_get proc.locals i ≡ Some r → shape_of (get_or locals i []) ≡ r
-  local_there i r at =
-      sym (get_or-map shape_of locals i []) ∙ (ap (λ (l : List (List Leaf)). get_or l i []) own ∙ get_or_from_slice_get proc.locals i r [] at)
+  local_there : (i : ℕ) (r : List Leaf) → slice_get proc.locals i ≡ Some r → IsValueOf r (get_or locals i [])
+  local_there i r at = locals_fit proc.locals locals own i r at
 
   assigned : (make : Put → Deed) → ((put : Put) (items : List Work) → PutFits d put → DeedFits d locals (make put) items) → (t : Target) (right : Tree) (rest : List Work) → Sound d proc rest → is_both (target_shape scope t) (tree_shape scope right) ≡ true → TreeSound d proc right → All (TreeSound d proc) (target_trees t) → (left : ℕ) → Gives (assigns (functions_of d) (world_of_state s) make t right rest locals left) Well
   assigned make fits (target.Slot n slot low width) right rest ok h sound inner left = goes rest left ok
@@ -162,27 +162,27 @@ module _ (d : Design) (proc : Proc) (s : MachineState) (of : IsStateOf d s) (loc
       let low : v < length d.vars = subst (λ n. v < n) (length-map d.vars (λ var. var.shape)) (slice_get_within (var_shapes d) v x.0 x.1) in
       gives_then (value_of (functions_of d) (world_of_state s) right locals left)
       (λ y l. and_then (path_of (functions_of d) (world_of_state s) path locals l) (λ steps k. does (make (put_of v (value_at s.vars v) steps y)) rest locals k))
-      (λ y. shape_of y ≡ both.0) Well
+      (IsValueOf both.0) Well
       (values right both.0 sound both.2 left)
       (λ y l p. gives_then (path_of (functions_of d) (world_of_state s) path locals l) (λ steps k. does (make (put_of v (value_at s.vars v) steps y)) rest locals k)
       (λ steps. Leads steps x.0 both.0) Well
       (paths path x.0 both.0 inner x.2 l)
       (λ steps k q. record {
         sound = ok;
-        fits = fits (put_of v (value_at s.vars v) steps y) rest (put_of_fits d v (value_at s.vars v) steps y both.0 low (var_has d s v of) (subst (λ r. Leads steps r both.0) (sym there) q) p);
+        fits = fits (put_of v (value_at s.vars v) steps y) rest (put_of_fits d v (value_at s.vars v) steps y both.0 low (var_has d s v of).leaves (subst (λ r. Leads steps r both.0) (sym there) q) p);
       }))
   assigned make fits (target.Local i path) right rest ok h sound inner left =
       let both = both_back (target_shape scope (target.Local i path)) (tree_shape scope right) h in
       let x = on_shape_back (slice_get proc.locals i) (path_shape scope path) both.0 both.1 in
-      let there : shape_of (get_or locals i []) ≡ x.0 = local_there i x.0 x.1 in
+      let there = local_there i x.0 x.1 in
       gives_then (value_of (functions_of d) (world_of_state s) right locals left)
       (λ y l. and_then (path_of (functions_of d) (world_of_state s) path locals l) (λ steps k. does (deed.SetsLocal i (written steps y (value_at locals i))) rest locals k))
-      (λ y. shape_of y ≡ both.0) Well
+      (IsValueOf both.0) Well
       (values right both.0 sound both.2 left)
       (λ y l p. gives_then (path_of (functions_of d) (world_of_state s) path locals l) (λ steps k. does (deed.SetsLocal i (written steps y (value_at locals i))) rest locals k)
       (λ steps. Leads steps x.0 both.0) Well
       (paths path x.0 both.0 inner x.2 l)
-      (λ steps k q. record { sound = ok; fits = written_has steps x.0 both.0 q y (value_at locals i) there p ∙ sym there }))
+      (λ steps k q. record { sound = ok; fits = subst (λ r. IsValueOf r (written steps y (value_at locals i))) (sym there.leaves) (written_is steps x.0 both.0 q y (value_at locals i) there p) }))
 
   -- ---- loops
   -- a loop of a test, perhaps a step, and a body
@@ -232,7 +232,7 @@ module _ (d : Design) (proc : Proc) (s : MachineState) (of : IsStateOf d s) (loc
   each_made zero bounds i body rest at loop h ok left = goes rest left ok
   each_made (suc n) bounds i body rest at loop h ok left = record {
     sound = sound_append (sound_do h) (sound_cons (sound_one (Each n bounds i body) loop) ok);
-    fits = sym (local_there i (int_leaf ∷ []) at);
+    fits = record { leaves = sym (local_there i (int_leaf ∷ []) at).leaves; filled = int_filled _ };
   }
 
   each_of_made : (bounds : Option (ℕ × ℕ)) (i : ℕ) (body : Act) (rest : List Work) → slice_get proc.locals i ≡ Some (int_leaf ∷ []) → ((b : ℕ × ℕ) → bounds ≡ Some b → Foreach b i body) → ActSound d proc body → Sound d proc rest → (left : ℕ) → Gives (foreach_begins bounds i body rest locals left) Well
@@ -412,15 +412,16 @@ module _ (d : Design) (proc : Proc) (s : MachineState) (of : IsStateOf d s) (loc
   item_made (Awaiting reads body) rest h left = record { sound = h; fits = refl }
 
 -- ---- the state after a step
-locals_long : (locals : List Value) (done : Deed) (d : Design) (items : List Work) → DeedFits d locals done items → map shape_of (locals_after done locals) ≡ map shape_of locals
-locals_long locals deed.GoesOn d items h = refl
-locals_long locals (deed.Writes put) d items h = refl
-locals_long locals (deed.Schedules put) d items h = refl
-locals_long locals (deed.SetsLocal i value) d items h = map-set_same shape_of locals i value [] h
-locals_long locals (deed.Delays amount) d items h = refl
-locals_long locals (deed.Waits kept) d items h = refl
-locals_long locals (deed.Displays line) d items h = refl
-locals_long locals deed.Finishes d items h = refl
+locals_keep : (locals : List Value) (done : Deed) (d : Design) (items : List Work) → DeedFits d locals done items → All Filled locals → AreValuesOf (map shape_of locals) (locals_after done locals)
+locals_keep locals deed.GoesOn d items h filled = record { leaves = refl; filled = filled }
+locals_keep locals (deed.Writes put) d items h filled = record { leaves = refl; filled = filled }
+locals_keep locals (deed.Schedules put) d items h filled = record { leaves = refl; filled = filled }
+locals_keep locals (deed.SetsLocal i value) d items h filled =
+    value_set (map shape_of locals) locals i value (record { leaves = refl; filled = filled }) (subst (λ r. IsValueOf r value) (sym (get_or-map shape_of locals i [])) h)
+locals_keep locals (deed.Delays amount) d items h filled = record { leaves = refl; filled = filled }
+locals_keep locals (deed.Waits kept) d items h filled = record { leaves = refl; filled = filled }
+locals_keep locals (deed.Displays line) d items h filled = record { leaves = refl; filled = filled }
+locals_keep locals deed.Finishes d items h filled = record { leaves = refl; filled = filled }
 
 scheduled_fit : (d : Design) (locals : List Value) (done : Deed) (items : List Work) → DeedFits d locals done items → All (PutFits d) (updates_of done)
 scheduled_fit d locals deed.GoesOn items h = All-nil (PutFits d)
@@ -468,6 +469,13 @@ module _ (d : Design) (design : IsDesign d) (p : ℕ) (proc : Proc) (at : slice_
             subst (λ (l : List Work). StandingFits s.moment l (get_or (slice_set s.standings p (standing_after_deed s.moment done items)) q Over)) (sym has) (subst (StandingFits s.moment (work_at s q)) (sym stands) x.standing),
           )
 
+  -- the loop variables of a procedure have their digits
+  own_filled : All Filled (locals_at s p)
+  own_filled = all_at (All Filled) s.locals p [] all_none of.locals_filled
+
+  locals_kept : (step : Deed × List Work) → Made d proc (locals_at s p) step → AreValuesOf (map shape_of (locals_at s p)) (locals_after step.0 (locals_at s p))
+  locals_kept step made = locals_keep (locals_at s p) step.0 d step.1 made.fits own_filled
+
   stepped_keeps : (step : Deed × List Work) → Made d proc (locals_at s p) step → IsStateOf d (make_step d p s step)
   unfolding make_step
   stepped_keeps step made =
@@ -487,7 +495,8 @@ module _ (d : Design) (design : IsDesign d) (p : ℕ) (proc : Proc) (at : slice_
         slots = of.slots;
         standings = length-set s.standings p _ ∙ of.standings;
         work = length-set s.work p _ ∙ of.work;
-        locals = map-set_same (map shape_of) s.locals p (locals_after step.0 (locals_at s p)) [] (locals_long (locals_at s p) step.0 d step.1 made.fits) ∙ of.locals;
+        locals = map-set_same (map shape_of) s.locals p (locals_after step.0 (locals_at s p)) [] (locals_kept step made).leaves ∙ of.locals;
+        locals_filled = All-set (All Filled) s.locals p (locals_after step.0 (locals_at s p)) (locals_kept step made).filled of.locals_filled;
         fresh = length-set s.fresh p _ ∙ of.fresh;
         evaluations = of.evaluations;
         resolutions = of.resolutions;
@@ -497,17 +506,14 @@ module _ (d : Design) (design : IsDesign d) (p : ℕ) (proc : Proc) (at : slice_
       })
 
   -- the loop variables of a procedure
-  own_locals : map shape_of (locals_at s p) ≡ proc.locals
-  own_locals =
+  own_shapes : map shape_of (locals_at s p) ≡ proc.locals
+  own_shapes =
       sym (get_or-map (map shape_of) s.locals p [])
       ∙ (ap (λ (l : List (List (List Leaf))). get_or l p []) of.locals
       ∙ get_or_from_slice_get (map (λ (x : Proc). x.locals) d.procs) p proc.locals [] (slice_get-map (λ (x : Proc). x.locals) d.procs p ∙ ap (option_map (λ (x : Proc). x.locals)) at))
 
-  -- what the procedure calls is called in the design
-  called_of_proc : (calls : List ℕ) → ((f : ℕ) → Contains calls f → Contains (act_calls proc.body) f) → Called d calls
-  called_of_proc calls h f x =
-      Contains-append_left (flat_map (λ (y : Proc). act_calls y.body) d.procs) (flat_map (λ (y : Assign). called_by y.right) d.assigns ++ flat_map function_calls d.functions) f
-      (in_flat (λ (y : Proc). act_calls y.body) d.procs proc f (in_list d.procs p proc at) (h f x))
+  own_locals : AreValuesOf proc.locals (locals_at s p)
+  own_locals = record { leaves = own_shapes; filled = own_filled }
 
   step_keeps : (items : List Work) → work_at s p ≡ items → (t : MachineState) → proc_step d p s items ≡ Some t → IsStateOf d t
   step_keeps [] has t h = absurd (none-some t h)
@@ -517,16 +523,15 @@ module _ (d : Design) (design : IsDesign d) (p : ℕ) (proc : Proc) (at : slice_
       subst (IsStateOf d) x.2 (stepped_keeps x.0 x.1)
     where
       fit : LocalsFit (scope_with d proc.locals None) (locals_at s p)
-      fit i shape there =
-          sym (get_or-map shape_of (locals_at s p) i []) ∙ (ap (λ (l : List (List Leaf)). get_or l i []) own_locals ∙ get_or_from_slice_get proc.locals i shape [] there)
+      fit i shape there = locals_fit proc.locals (locals_at s p) own_locals i shape there
 
-      value_fits : (t : Tree) (r : List Leaf) → TreeSound d proc t → tree_shape (scope_with d proc.locals None) t ≡ Some r → (left : ℕ) → Gives (value_of (functions_of d) (world_of_state s) t (locals_at s p) left) (λ v. shape_of v ≡ r)
+      value_fits : (t : Tree) (r : List Leaf) → TreeSound d proc t → tree_shape (scope_with d proc.locals None) t ≡ Some r → (left : ℕ) → Gives (value_of (functions_of d) (world_of_state s) t (locals_at s p) left) (IsValueOf r)
       value_fits t r sound at_shape left =
-          value_has d design most_turns proc.locals (world_of_state s) (outside d design s of) t r (called_of_proc (called_by t) sound.calls) at_shape (locals_at s p) fit left
+          value_has d design most_turns proc.locals (world_of_state s) (outside d design s of) t r at_shape (locals_at s p) fit left
 
       path_fits : (path : List Pick) (r w : List Leaf) → All (TreeSound d proc) (flat_map pick_trees path) → path_shape (scope_with d proc.locals None) path r ≡ Some w → (left : ℕ) → Gives (path_of (functions_of d) (world_of_state s) path (locals_at s p) left) (λ steps. Leads steps r w)
       path_fits path r w sound at_shape left =
-          path_has d design most_turns proc.locals (world_of_state s) (outside d design s of) path r w (called_of_proc (flat_map called_by (flat_map pick_trees path)) (all_inside called_by (λ f. Contains (act_calls proc.body) f) (flat_map pick_trees path) (λ k t low. (sound k t low).calls))) at_shape (locals_at s p) fit left
+          path_has d design most_turns proc.locals (world_of_state s) (outside d design s of) path r w at_shape (locals_at s p) fit left
 
 none_past : {A : Type 0} (xs : List (List A)) (p : ℕ) → length xs ≤ p → get_or xs p [] ≡ []
 none_past [] p low = refl

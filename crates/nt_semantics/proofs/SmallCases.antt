@@ -8,7 +8,7 @@ use Rattle.nt_value.specs.declared.leaf.Leaf.{Leaf}
 use Rattle.nt_design.specs.Parts.{Value, one, int_value, written, Step, IntoItem, IntoLeaves, IntoPart}
 use Rattle.nt_value.specs.declared.kind.Edge.TheVariants.{Any, Pos, Neg}
 use Rattle.nt_semantics.specs.Lines.{line_of}
-use Rattle.nt_semantics.specs.Puts.{put_of, after_put}
+use Rattle.nt_design.specs.Puts.{put_of, after_put}
 use Rattle.nt_semantics.specs.Same.{is_same}
 use Rattle.nt_semantics.specs.Statements.{index_before, size_of}
 use Rattle.nt_semantics.specs.Step.{contribution, joined_wires}

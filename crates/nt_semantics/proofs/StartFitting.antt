@@ -1,12 +1,21 @@
 -- The start state is one of its design.
-use Rattle.std.proofs.Common.{◌≡◌, ℕ, zero, suc, not, if◌then◌else◌, List, [], ◌∷◌, ◌++◌, map, length, get_or, refl, ap, sym, subst, ◌∙◌, arith}
+use Rattle.std.proofs.Common.{◌≡◌, ℕ, zero, suc, not, if◌then◌else◌, List, [], ◌∷◌, ◌++◌, map, length, get_or, replicate, refl, ap, sym, subst, ◌∙◌, arith}
 use Rattle.std.specs.Prelude.{All, Contains, Some, None, slice_get}
 use Rattle.std.specs.List.{flat_map}
 use Rattle.std.proofs.lemmas.List.{length-map, length-replicate, append_assoc}
 use Rattle.std.proofs.lemmas.List.Elements.{All-append, All-cons, All-nil}
 use Rattle.std.proofs.lemmas.Option.{same_Some}
-use Rattle.nt_value.specs.Values.{shape_of, default_value}
+use Rattle.nt_value.proofs.Filled.{in_filled}
+use Rattle.nt_value.specs.Digits.{IsFilled}
+use Rattle.nt_value.specs.Operators.{in_leaf}
+use Rattle.nt_value.specs.Values.{AreValuesOf, IsValueOf, shape_of, default_value}
+use Rattle.nt_value.specs.declared.digit.Digit.TheVariants.{Z}
+use Rattle.nt_design.proofs.Filled.{all_none, defaults_filled, none_filled}
+use Rattle.nt_design.proofs.Frame.{two}
+use Rattle.nt_design.proofs.Results.{default_is}
+use Rattle.nt_design.proofs.Shaped.{default_has}
 use Rattle.nt_value.specs.declared.leaf.Leaf.{Leaf}
+use Rattle.nt_design.specs.Parts.{Value}
 use Rattle.nt_design.specs.declared.act.Act.{Act}
 use Rattle.nt_value.specs.declared.place.Place.{Place as TextPlace}
 use Rattle.nt_design.specs.declared.act.Act.TheViews as view
@@ -53,28 +62,43 @@ got f e [] i x h = absurd (none_one h)
 got f e (y ∷ xs) zero x h = ap f (same_Some y x h)
 got f e (y ∷ xs) (suc i) x h = got f e xs i x h
 
-default_shape : (shape : List Leaf) → shape_of (default_value shape) ≡ shape
-default_shape [] = refl
-default_shape (leaf ∷ shape) = ap (λ l. leaf ∷ l) (default_shape shape)
+pub z_is : (shape : List Leaf) → IsValueOf shape (z_value shape)
+z_is shape = record { leaves = leaves shape; filled = filled shape }
+  where
+    leaves : (shape : List Leaf) → shape_of (z_value shape) ≡ shape
+    leaves [] = refl
+    leaves (leaf ∷ shape) = ap (λ l. leaf ∷ l) (leaves shape)
 
-pub z_shape : (shape : List Leaf) → shape_of (z_value shape) ≡ shape
-z_shape [] = refl
-z_shape (leaf ∷ shape) = ap (λ l. leaf ∷ l) (z_shape shape)
+    filled : (shape : List Leaf) → All IsFilled (z_value shape)
+    filled [] = none_filled
+    filled (leaf ∷ shape) =
+        All-cons IsFilled (in_leaf leaf (replicate leaf.width Z)) (z_value shape) (in_filled leaf (replicate leaf.width Z) (length-replicate leaf.width Z)) (filled shape)
 
-net_start_shape : (kind : NetKind) (shape : List Leaf) → shape_of (net_start kind shape) ≡ shape
-net_start_shape Wire shape = z_shape shape
-net_start_shape Unresolved shape = default_shape shape
-net_start_shape (Resolved f) shape = default_shape shape
+net_start_is : (kind : NetKind) (shape : List Leaf) → IsValueOf shape (net_start kind shape)
+net_start_is Wire shape = z_is shape
+net_start_is Unresolved shape = default_is shape
+net_start_is (Resolved f) shape = default_is shape
 
-net_at : (nets : List Net) (n : ℕ) → shape_of (get_or (map (λ (net : Net). net_start net.kind net.shape) nets) n []) ≡ get_or (map (λ (net : Net). net.shape) nets) n []
-net_at [] n = refl
-net_at (net ∷ nets) zero = net_start_shape net.kind net.shape
+net_at : (nets : List Net) (n : ℕ) → IsValueOf (get_or (map (λ (net : Net). net.shape) nets) n []) (get_or (map (λ (net : Net). net_start net.kind net.shape) nets) n [])
+net_at [] n = record { leaves = refl; filled = none_filled }
+net_at (net ∷ nets) zero = net_start_is net.kind net.shape
 net_at (net ∷ nets) (suc n) = net_at nets n
 
-slot_at : (d : Design) (t : Target) → shape_of (slot_start d t) ≡ slot_shape d t
+slot_at : (d : Design) (t : Target) → IsValueOf (slot_shape d t) (slot_start d t)
 slot_at d (target.Slot n slot low width) = net_at d.nets n
-slot_at d (target.Var v path) = refl
-slot_at d (target.Local i path) = refl
+slot_at d (target.Var v path) = record { leaves = refl; filled = none_filled }
+slot_at d (target.Local i path) = record { leaves = refl; filled = none_filled }
+
+-- values that are made of the members of a list
+values_of_list : {X : Type 0} (shape : X → List Leaf) (value : X → Value) (xs : List X) → ((i : ℕ) (x : X) → slice_get xs i ≡ Some x → IsValueOf (shape x) (value x)) → AreValuesOf (map shape xs) (map value xs)
+values_of_list shape value [] each = record { leaves = refl; filled = all_none }
+values_of_list shape value (x ∷ xs) each =
+    let first = each 0 x refl in
+    let rest = values_of_list shape value xs (λ i y at. each (suc i) y at) in
+    record {
+      leaves = two (λ y ys. y ∷ ys) first.leaves rest.leaves;
+      filled = All-cons (All IsFilled) (value x) (map value xs) first.filled rest.filled;
+    }
 
 -- ---- what is to do first
 module _ where
@@ -144,12 +168,13 @@ start_proc d p proc at =
 pub start_fits : StartFits
 start_fits d design = record {
   moment = omega arith;
-  vars = map_twice shape_of (λ (x : Var). x.start) d.vars ∙ map_same (λ (x : Var). shape_of x.start) (λ (x : Var). x.shape) d.vars (λ i x at. (design.vars i x at).start);
-  nets = map_twice shape_of (λ (x : Net). net_start x.kind x.shape) d.nets ∙ map_same (λ (x : Net). shape_of (net_start x.kind x.shape)) (λ (x : Net). x.shape) d.nets (λ i x at. net_start_shape x.kind x.shape);
-  slots = map_twice shape_of (λ (x : Assign). slot_start d x.target) d.assigns ∙ map_same (λ (x : Assign). shape_of (slot_start d x.target)) (λ (x : Assign). slot_shape d x.target) d.assigns (λ i x at. slot_at d x.target);
+  vars = values_of_list (λ (x : Var). x.shape) (λ (x : Var). x.start) d.vars (λ i x at. (design.vars i x at).start);
+  nets = values_of_list (λ (x : Net). x.shape) (λ (x : Net). net_start x.kind x.shape) d.nets (λ i x at. net_start_is x.kind x.shape);
+  slots = values_of_list (λ (x : Assign). slot_shape d x.target) (λ (x : Assign). slot_start d x.target) d.assigns (λ i x at. slot_at d x.target);
   standings = length-map d.procs (λ (x : Proc). if is_comb x.kind then Unbegun else Ready);
   work = length-map d.procs (λ (x : Proc). start_work x.kind x);
   locals = map_twice (map shape_of) (λ (x : Proc). map default_value x.locals) d.procs ∙ map_same (λ (x : Proc). map shape_of (map default_value x.locals)) (λ (x : Proc). x.locals) d.procs (λ i x at. defaults x.locals);
+  locals_filled = all_defaults d.procs;
   fresh = length-map d.procs (λ (x : Proc). not (is_comb x.kind));
   evaluations = length-replicate (length d.assigns) 1;
   resolutions = length-replicate (length d.nets) 1;
@@ -161,4 +186,9 @@ start_fits d design = record {
     defaults : (shapes : List (List Leaf)) → map shape_of (map default_value shapes) ≡ shapes
     defaults [] = refl
     defaults (shape ∷ shapes) =
-        ap (λ (s : List Leaf). s ∷ map shape_of (map default_value shapes)) (default_shape shape) ∙ ap (λ (l : List (List Leaf)). shape ∷ l) (defaults shapes)
+        ap (λ (s : List Leaf). s ∷ map shape_of (map default_value shapes)) (default_has shape) ∙ ap (λ (l : List (List Leaf)). shape ∷ l) (defaults shapes)
+
+    all_defaults : (procs : List Proc) → All (All (All IsFilled)) (map (λ (x : Proc). map default_value x.locals) procs)
+    all_defaults [] = λ k i low. absurd (omega (arith, low))
+    all_defaults (x ∷ procs) =
+        All-cons (All (All IsFilled)) (map default_value x.locals) (map (λ (y : Proc). map default_value y.locals) procs) (defaults_filled x.locals) (all_defaults procs)

@@ -1,37 +1,33 @@
 -- What writes of variables and values of nets keep: a state of a design.
-use Rattle.std.proofs.Common.{◌≡◌, ℕ, zero, suc, ◌+◌, ◌-◌, ◌*◌, ◌/◌, ◌<◌, ◌≤◌, not, List, [], ◌∷◌, ◌++◌, map, length, take, drop, get_or, refl, ap, sym, subst, ◌∙◌, arith}
-use Rattle.std.specs.Prelude.{All, ⊤, Option, Some, None, slice_get, slice_set, min, ℤ, pos, negsuc}
+use Rattle.std.proofs.Common.{◌≡◌, ℕ, zero, suc, ◌+◌, ◌-◌, ◌*◌, ◌/◌, ◌<◌, ◌≤◌, not, List, [], ◌∷◌, ◌++◌, length, take, drop, refl, ap, sym, subst, ◌∙◌, arith}
+use Rattle.std.specs.Prelude.{All, ⊤, Some, None, slice_get, slice_set, min, pos, negsuc}
 use Rattle.std.specs.List.{take-map, drop-map}
-use Rattle.std.proofs.Math.Seq.{map-set_same}
-use Rattle.std.proofs.Math.ListN.{get_or-map}
-use Rattle.std.proofs.lemmas.List.{drop-drop, take-append-drop, length-map, length-take-le, length-drop}
+use Rattle.std.proofs.lemmas.List.{drop-drop, length-map, length-take-le, length-drop}
 use Rattle.std.proofs.lemmas.List.Elements.{All-head, All-tail}
 use Rattle.std.proofs.lemmas.Option.{same_Some, none-some}
 use Rattle.nt_value.specs.Digits.{LeafValue}
 use Rattle.nt_value.specs.Operators.{unsigned_leaf}
-use Rattle.nt_value.specs.Values.{shape_of}
+use Rattle.nt_value.specs.Values.{AreValuesOf, IsValueOf, shape_of}
 use Rattle.nt_value.specs.declared.leaf.Leaf.{Leaf}
 use Rattle.nt_design.specs.Parts.{Value, only, one, leaves_at, leaves_each, with_leaves, with_part, Step, IntoLeaves, IntoItem, IntoPart}
-use Rattle.nt_design.specs.WellFormed.{IsDesign}
+use Rattle.nt_design.specs.WellFormed.{IsDesign, net_shapes, var_shapes}
 use Rattle.nt_design.specs.declared.design.Design.{Design}
 use Rattle.nt_design.specs.declared.object.Object.TheVariants as object
+use Rattle.nt_design.proofs.Does.{value_set, value_there}
+use Rattle.nt_design.proofs.Filled.{leaves_filled, none_filled, one_all, only_filled, with_leaves_filled, with_part_filled}
+use Rattle.nt_design.proofs.Puts.{in_parts, nothing_dropped, nothing_taken, taken_inside, whole_there}
+use Rattle.nt_design.specs.Fitting.{Into, Leads}
 use Rattle.nt_design.proofs.Shaped.{append_has, leaves_has, only_leaf}
-use Rattle.nt_design.proofs.Writes.{Into, Leads, item_where}
+use Rattle.nt_design.proofs.Writes.{item_where}
 use Rattle.nt_semantics.proofs.WakeKeeps.{wake_keeps}
-use Rattle.nt_semantics.specs.Puts.{put_in, after_put, put_of, put_at, spot_of, into, nothing_put, digits_put, inside_put, Spot, Nowhere, AtLeaves, AtDigits}
+use Rattle.nt_design.specs.Puts.{put_in, after_put, put_of, put_at, spot_of, into, nothing_put, digits_put, PutInside, Spot, Nowhere, AtLeaves, AtDigits}
 use Rattle.nt_semantics.specs.Same.{is_same}
 use Rattle.nt_semantics.specs.State.{MachineState, value_at, net_shape, var_shape}
-use Rattle.nt_semantics.specs.StateFits.{IsStateOf, PutFits, PutInside}
+use Rattle.nt_semantics.specs.StateFits.{IsStateOf, PutFits}
 use Rattle.nt_semantics.specs.Step.{put_var, set_net, update_step}
-use Rattle.nt_semantics.specs.declared.deed.Put.{Put}
+use Rattle.nt_design.specs.declared.put.Put.{Put}
 
 -- ---- values
--- a list is what stands before a part, the part, and what stands behind it
-in_parts : {A : Type 0} (first count : ℕ) (s : List A) → take first s ++ (take count (drop first s) ++ drop (first + count) s) ≡ s
-in_parts first count s =
-    ap (λ l. take first s ++ (take count (drop first s) ++ l)) (sym (drop-drop count first s))
-    ∙ (ap (λ l. take first s ++ l) (take-append-drop count (drop first s)) ∙ take-append-drop first s)
-
 -- leaves in place of others of the same kinds
 pub with_kept : (first count : ℕ) (part value : Value) (s : List Leaf) → shape_of value ≡ s → shape_of part ≡ leaves_at first count s → shape_of (with_leaves first count part value) ≡ s
 with_kept first count part value s h k =
@@ -55,52 +51,37 @@ leaf_there (a ∷ s) zero leaf h = ap (λ l. l ∷ []) (same_Some a leaf h)
 leaf_there (a ∷ s) (suc first) leaf h = leaf_there s first leaf h
 
 -- ---- writes
-put_in_has : (first low width : ℕ) (new old : Value) (s : List Leaf) → shape_of old ≡ s → PutInside s first low width (shape_of new) → shape_of (put_in first low width new old) ≡ s
-put_in_has first low zero new old s h k =
-    with_kept first (length new) new old s h (sym (ap (λ n. leaves_at first n s) (sym (length-map new (λ (x : LeafValue). x.leaf))) ∙ k))
-put_in_has first low (suc n) new old s h k =
-    with_kept first 1 (one (with_part (Some (pos low)) (only new) (only (leaves_at first 1 old)))) old s h
-    (ap (λ (l : Leaf). l ∷ []) (only_leaf (leaves_at first 1 old) k.0 (leaves_has first 1 old ∙ (ap (leaves_at first 1) h ∙ there)))
-    ∙ sym there)
+put_in_has : (first low width : ℕ) (new old : Value) (s : List Leaf) → IsValueOf s old → PutInside s first low width new → IsValueOf s (put_in first low width new old)
+put_in_has first low zero new old s h k = record {
+  leaves = with_kept first (length new) new old s h.leaves k.leaves;
+  filled = with_leaves_filled first (length new) new old k.filled h.filled;
+}
+put_in_has first low (suc n) new old s h k = record {
+  leaves = with_kept first 1 (one (with_part (Some (pos low)) (only new) (only (leaves_at first 1 old)))) old s h.leaves
+      (ap (λ (l : Leaf). l ∷ []) (only_leaf (leaves_at first 1 old) k.0 (leaves_has first 1 old ∙ (ap (leaves_at first 1) h.leaves ∙ there)))
+      ∙ sym there);
+  filled = with_leaves_filled first 1 (one (with_part (Some (pos low)) (only new) (only (leaves_at first 1 old)))) old
+      (one_all (with_part (Some (pos low)) (only new) (only (leaves_at first 1 old))) (with_part_filled (Some (pos low)) (only new) (only (leaves_at first 1 old)) (only_filled (leaves_at first 1 old) (leaves_filled first 1 old h.filled))))
+      h.filled;
+}
   where
     there : leaves_at first 1 s ≡ k.0 ∷ []
     there = leaf_there s first k.0 k.2.0
 
--- a write that fits keeps a variable's leaves
-pub put_has : (put : Put) (old : Value) (s : List Leaf) → shape_of old ≡ s → PutInside s put.first put.low put.width (shape_of put.value) → shape_of (after_put put old) ≡ s
+-- a write that fits keeps a variable's shape
+pub put_has : (put : Put) (old : Value) (s : List Leaf) → IsValueOf s old → PutInside s put.first put.low put.width put.value → IsValueOf s (after_put put old)
 unfolding after_put
 put_has put old s h k = put_in_has put.first put.low put.width put.value old s h k
 
-pub var_has : (d : Design) (s : MachineState) (v : ℕ) → IsStateOf d s → shape_of (value_at s.vars v) ≡ var_shape d v
-var_has d s v of = sym (get_or-map shape_of s.vars v []) ∙ ap (λ (l : List (List Leaf)). get_or l v []) of.vars
-
-pub net_has : (d : Design) (s : MachineState) (n : ℕ) → IsStateOf d s → shape_of (value_at s.nets n) ≡ net_shape d n
-net_has d s n of = sym (get_or-map shape_of s.nets n []) ∙ ap (λ (l : List (List Leaf)). get_or l n []) of.nets
+pub var_has : (d : Design) (s : MachineState) (v : ℕ) → IsStateOf d s → IsValueOf (var_shape d v) (value_at s.vars v)
+var_has d s v of = value_there (var_shapes d) s.vars v of.vars
 
 -- ---- where a path leads
-nothing_taken : {A : Type 0} (n : ℕ) → take {A = A} n [] ≡ []
-nothing_taken zero = refl
-nothing_taken (suc n) = refl
-
-nothing_dropped : {A : Type 0} (n : ℕ) → drop {A = A} n [] ≡ []
-nothing_dropped zero = refl
-nothing_dropped (suc n) = refl
-
-taken_inside : {A : Type 0} (c f n : ℕ) (xs : List A) → f + c ≤ n → take c (drop f (take n xs)) ≡ take c (drop f xs)
-taken_inside c f n [] low = ap (λ l. take c (drop f l)) (nothing_taken n)
-taken_inside zero zero zero (x ∷ xs) low = refl
-taken_inside zero zero (suc n) (x ∷ xs) low = refl
-taken_inside (suc c) zero zero (x ∷ xs) low = absurd (omega (arith, low))
-taken_inside (suc c) zero (suc n) (x ∷ xs) low =
-    ap (λ l. x ∷ l) (taken_inside c zero n xs (omega (arith, low)))
-taken_inside c (suc f) zero (x ∷ xs) low = absurd (omega (arith, low))
-taken_inside c (suc f) (suc n) (x ∷ xs) low = taken_inside c f n xs (omega (arith, low))
-
 -- a spot in leaves, and the part that stands there
 abbrev SpotFits : List Leaf → Spot → List Leaf → Type 0
 SpotFits s Nowhere r = ⊤
 SpotFits s (AtLeaves first count) r = (first + count ≤ length s) × (leaves_at first count s ≡ r)
-SpotFits s (AtDigits leaf low width) r = (a : Leaf) × (slice_get s leaf ≡ Some a)
+SpotFits s (AtDigits leaf low skip first end) r = (a : Leaf) × (slice_get s leaf ≡ Some a)
 
 length_there : (first count : ℕ) (s r : List Leaf) → first + count ≤ length s → leaves_at first count s ≡ r → length r ≡ count
 length_there first count s r low h =
@@ -122,14 +103,22 @@ leaf_at (suc first) count (x ∷ s) a h = leaf_at first count s a h
 
 into_fits : (s mid r : List Leaf) (step : Step) (spot : Spot) → SpotFits s spot mid → Into step mid r → SpotFits s (into step spot) r
 into_fits s mid r step Nowhere h k = tt
-into_fits s mid r step (AtDigits leaf low width) h k = tt
+into_fits s mid r (IntoLeaves at zero) (AtDigits leaf low skip first end) h k = tt
+into_fits s mid r (IntoLeaves at (suc n)) (AtDigits leaf low skip first end) h k = h
+into_fits s mid r (IntoItem None size) (AtDigits leaf low skip first end) h k = tt
+into_fits s mid r (IntoItem (Some position) size) (AtDigits leaf low skip first end) h k = h
+into_fits s mid r (IntoPart None width) (AtDigits leaf low skip first end) h k = tt
+into_fits s mid r (IntoPart (Some (pos more)) width) (AtDigits leaf low skip first end) h k = h
+into_fits s mid r (IntoPart (Some (negsuc below)) width) (AtDigits leaf low skip first end) h k = h
 into_fits s mid r (IntoLeaves f c) (AtLeaves first count) h k = of_leaves first count f c s mid r h.0 h.1 k.0 k.1
 into_fits s mid r (IntoItem None size) (AtLeaves first count) h k = tt
 into_fits s mid r (IntoItem (Some position) size) (AtLeaves first count) h k =
     let w = item_where size position mid r k.0 k.1 in
     let each : leaves_each size mid ≡ count / size = ap (λ n. n / size) (length_there first count s mid h.0 h.1) in
     subst (λ n. SpotFits s (AtLeaves (first + position * n) n) r) each (of_leaves first count (position * leaves_each size mid) (leaves_each size mid) s mid r h.0 h.1 w.0 w.1)
-into_fits s mid r (IntoPart low width) (AtLeaves first count) h k = (k.0, leaf_at first count s k.0 (h.1 ∙ k.1))
+into_fits s mid r (IntoPart None width) (AtLeaves first count) h k = tt
+into_fits s mid r (IntoPart (Some (pos low)) width) (AtLeaves first count) h k = (k.0, leaf_at first count s k.0 (h.1 ∙ k.1))
+into_fits s mid r (IntoPart (Some (negsuc below)) width) (AtLeaves first count) h k = (k.0, leaf_at first count s k.0 (h.1 ∙ k.1))
 
 path_fits : (s mid r : List Leaf) (path : List Step) (spot : Spot) → SpotFits s spot mid → Leads path mid r → SpotFits s (spot_of path spot) r
 path_fits s mid r [] spot h k = subst (SpotFits s spot) k h
@@ -137,43 +126,32 @@ path_fits s mid r (step ∷ path) spot h k = path_fits s k.0 r path (into step s
 
 -- ---- what is put there
 nothing_fits : (d : Design) (v : ℕ) → v < length d.vars → PutFits d (nothing_put v)
-nothing_fits d v low = (low, none_at (var_shape d v))
-  where
-    none_at : (s : List Leaf) → leaves_at 0 0 s ≡ []
-    none_at [] = refl
-    none_at (a ∷ s) = refl
+nothing_fits d v low = (low, record { leaves = refl; filled = none_filled })
 
 digits_fit : (d : Design) (v leaf low from : ℕ) (value : LeafValue) (n : ℕ) (a : Leaf) → v < length d.vars → slice_get (var_shape d v) leaf ≡ Some a → (0 < n → low + n ≤ a.width) → PutFits d (digits_put v leaf low from value n)
 digits_fit d v leaf low from value zero a below h inner = nothing_fits d v below
 digits_fit d v leaf low from value (suc n) a below h inner = (below, (a, unsigned_leaf (suc n) value.leaf.four, (h, (refl, (refl, inner (omega arith))))))
 
-inside_fits : (d : Design) (v leaf width : ℕ) (low : Option ℤ) (n : ℕ) (value : LeafValue) (a : Leaf) → v < length d.vars → slice_get (var_shape d v) leaf ≡ Some a → width ≡ a.width → PutFits d (inside_put v leaf width low n value)
-inside_fits d v leaf width None n value a below h is = nothing_fits d v below
-inside_fits d v leaf width (Some (pos low)) n value a below h is =
-    digits_fit d v leaf low 0 value (min n (width - low)) a below h (λ some. omega (arith, some, is))
-inside_fits d v leaf width (Some (negsuc under)) n value a below h is =
-    digits_fit d v leaf 0 (suc under) value (min (n - suc under) width) a below h (λ some. omega (arith, some, is))
-
-put_at_fits : (d : Design) (v : ℕ) (old : Value) (spot : Spot) (value : Value) (r : List Leaf) → v < length d.vars → shape_of old ≡ var_shape d v → SpotFits (var_shape d v) spot r → shape_of value ≡ r → PutFits d (put_at v old spot value)
+put_at_fits : (d : Design) (v : ℕ) (old : Value) (spot : Spot) (value : Value) (r : List Leaf) → v < length d.vars → shape_of old ≡ var_shape d v → SpotFits (var_shape d v) spot r → IsValueOf r value → PutFits d (put_at v old spot value)
 put_at_fits d v old Nowhere value r below h k is = nothing_fits d v below
 put_at_fits d v old (AtLeaves first count) value r below h k is = (
   below,
-  ap (λ n. leaves_at first n (var_shape d v)) (ap (λ (l : List Leaf). length l) is ∙ length_there first count (var_shape d v) r k.0 k.1) ∙ (k.1 ∙ sym is),
+  record {
+    leaves = is.leaves ∙ (sym k.1 ∙ ap (λ n. leaves_at first n (var_shape d v)) (sym long));
+    filled = is.filled;
+  },
 )
-put_at_fits d v old (AtDigits leaf low width) value r below h k is =
-    inside_fits d v leaf (only (leaves_at leaf 1 old)).leaf.width low width (only value) k.0 below k.1
-    (ap (λ (a : Leaf). a.width) (only_leaf (leaves_at leaf 1 old) k.0 (leaves_has leaf 1 old ∙ (ap (leaves_at leaf 1) h ∙ leaf_there (var_shape d v) leaf k.0 k.1))))
-
-pub whole_there : (s : List Leaf) → leaves_at 0 (length s) s ≡ s
-whole_there [] = refl
-whole_there (a ∷ s) = ap (λ (l : List Leaf). a ∷ l) (sym (ap (take (length s)) (sym (nothing_before s))) ∙ whole_there s)
   where
-    nothing_before : (s : List Leaf) → drop 0 s ≡ s
-    nothing_before [] = refl
-    nothing_before (a ∷ s) = refl
+    long : length value ≡ count
+    long =
+        sym (length-map value (λ (x : LeafValue). x.leaf)) ∙ (ap (λ (l : List Leaf). length l) is.leaves ∙ length_there first count (var_shape d v) r k.0 k.1)
+put_at_fits d v old (AtDigits leaf low skip first end) value r below h k is =
+    let width : (only (leaves_at leaf 1 old)).leaf.width ≡ (k.0).width = ap (λ (a : Leaf). a.width) (only_leaf (leaves_at leaf 1 old) k.0 (leaves_has leaf 1 old ∙ (ap (leaves_at leaf 1) h ∙ leaf_there (var_shape d v) leaf k.0 k.1))) in
+    digits_fit d v leaf first (first + skip - low) (only value) (min end (only (leaves_at leaf 1 old)).leaf.width - first) k.0 below k.1
+    (λ some. omega (arith, some, width))
 
 -- a write through a path that leads to a part of these leaves fits
-pub put_of_fits : (d : Design) (v : ℕ) (old : Value) (path : List Step) (value : Value) (r : List Leaf) → v < length d.vars → shape_of old ≡ var_shape d v → Leads path (var_shape d v) r → shape_of value ≡ r → PutFits d (put_of v old path value)
+pub put_of_fits : (d : Design) (v : ℕ) (old : Value) (path : List Step) (value : Value) (r : List Leaf) → v < length d.vars → shape_of old ≡ var_shape d v → Leads path (var_shape d v) r → IsValueOf r value → PutFits d (put_of v old path value)
 put_of_fits d v old path value r below h k is =
     let long : length old ≡ length (var_shape d v) = sym (length-map old (λ (x : LeafValue). x.leaf)) ∙ ap (λ (l : List Leaf). length l) h in
     put_at_fits d v old (spot_of path (AtLeaves 0 (length old))) value r below h
@@ -181,15 +159,16 @@ put_of_fits d v old path value r below h k is =
     is
 
 -- ---- states with other values
-vars_keep : (d : Design) (s : MachineState) (vars : List Value) → IsStateOf d s → map shape_of vars ≡ map shape_of s.vars → IsStateOf d (record s { vars = vars })
+vars_keep : (d : Design) (s : MachineState) (vars : List Value) → IsStateOf d s → AreValuesOf (var_shapes d) vars → IsStateOf d (record s { vars = vars })
 vars_keep d s vars of same = record {
   moment = of.moment;
-  vars = same ∙ of.vars;
+  vars = same;
   nets = of.nets;
   slots = of.slots;
   standings = of.standings;
   work = of.work;
   locals = of.locals;
+  locals_filled = of.locals_filled;
   fresh = of.fresh;
   evaluations = of.evaluations;
   resolutions = of.resolutions;
@@ -198,15 +177,16 @@ vars_keep d s vars of same = record {
   moved = of.moved;
 }
 
-nets_keep : (d : Design) (s : MachineState) (nets : List Value) → IsStateOf d s → map shape_of nets ≡ map shape_of s.nets → IsStateOf d (record s { nets = nets })
+nets_keep : (d : Design) (s : MachineState) (nets : List Value) → IsStateOf d s → AreValuesOf (net_shapes d) nets → IsStateOf d (record s { nets = nets })
 nets_keep d s nets of same = record {
   moment = of.moment;
   vars = of.vars;
-  nets = same ∙ of.nets;
+  nets = same;
   slots = of.slots;
   standings = of.standings;
   work = of.work;
   locals = of.locals;
+  locals_filled = of.locals_filled;
   fresh = of.fresh;
   evaluations = of.evaluations;
   resolutions = of.resolutions;
@@ -224,6 +204,7 @@ moved_keep d s puts of fit = record {
   standings = of.standings;
   work = of.work;
   locals = of.locals;
+  locals_filled = of.locals_filled;
   fresh = of.fresh;
   evaluations = of.evaluations;
   resolutions = of.resolutions;
@@ -239,14 +220,14 @@ module _ (d : Design) (design : IsDesign d) where
   put_keeps put s fit of =
       wake_keeps d design (object.Var put.var) (not (is_same (value_at s.vars put.var) (after_put put (value_at s.vars put.var)))) (record s { vars = slice_set s.vars put.var (after_put put (value_at s.vars put.var)) })
       (vars_keep d s (slice_set s.vars put.var (after_put put (value_at s.vars put.var))) of
-      (map-set_same shape_of s.vars put.var (after_put put (value_at s.vars put.var)) [] (put_has put (value_at s.vars put.var) (var_shape d put.var) (var_has d s put.var of) fit.1 ∙ sym (var_has d s put.var of))))
+      (value_set (var_shapes d) s.vars put.var (after_put put (value_at s.vars put.var)) of.vars (put_has put (value_at s.vars put.var) (var_shape d put.var) (var_has d s put.var of) fit.1)))
 
   -- a net takes a value
-  pub net_keeps : (n : ℕ) (new : Value) (s : MachineState) → shape_of new ≡ net_shape d n → IsStateOf d s → IsStateOf d (set_net d n new s)
+  pub net_keeps : (n : ℕ) (new : Value) (s : MachineState) → IsValueOf (net_shape d n) new → IsStateOf d s → IsStateOf d (set_net d n new s)
   unfolding set_net
   net_keeps n new s fit of =
       wake_keeps d design (object.Net n) (not (is_same (value_at s.nets n) new)) (record s { nets = slice_set s.nets n new })
-      (nets_keep d s (slice_set s.nets n new) of (map-set_same shape_of s.nets n new [] (fit ∙ sym (net_has d s n of))))
+      (nets_keep d s (slice_set s.nets n new) of (value_set (net_shapes d) s.nets n new of.nets fit))
 
   -- an update is performed
   pub update_keeps : (s t : MachineState) (puts : List Put) → All (PutFits d) puts → IsStateOf d s → update_step d s puts ≡ Some t → IsStateOf d t

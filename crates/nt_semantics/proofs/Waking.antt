@@ -15,7 +15,7 @@ use Rattle.nt_design.specs.declared.object.Object.TheVariants as object
 use Rattle.nt_design.specs.declared.process.Assign.{Assign}
 use Rattle.nt_design.specs.declared.target.Target.{Target}
 use Rattle.nt_design.specs.declared.target.Target.TheVariants as target
-use Rattle.nt_semantics.specs.Puts.{after_put, leaves_put}
+use Rattle.nt_design.specs.Puts.{after_put, leaves_put}
 use Rattle.nt_semantics.specs.Same.{is_same}
 use Rattle.nt_semantics.specs.State.{MachineState, standing_at, work_at, locals_at, each_below, world_of_state, value_at, count_at}
 use Rattle.nt_semantics.specs.declared.standing.Standing.{Standing}
@@ -25,7 +25,7 @@ use Rattle.nt_semantics.specs.Step.{step, only_if, in_turns, proc_step, assign_s
 use Rattle.nt_semantics.specs.Wake.{wake, waking, waking_at, standing_after, functions_of}
 use Rattle.nt_semantics.specs.declared.deed.Deed.{Deed}
 use Rattle.nt_semantics.specs.declared.deed.Deed.TheVariants as deed
-use Rattle.nt_semantics.specs.declared.deed.Put.{Put}
+use Rattle.nt_design.specs.declared.put.Put.{Put}
 use Rattle.nt_semantics.specs.declared.event.Event.TheVariants.{Stmt, Assign as AssignEvent, Update, Resolve}
 use Rattle.nt_semantics.specs.ReadyLists.{is_live}
 use Rattle.nt_semantics.specs.Laws.{OthersWakeTheWaiting}

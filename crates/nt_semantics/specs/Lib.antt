@@ -2,7 +2,6 @@ pub mod Execution
 pub mod Groups
 pub mod Laws
 pub mod Lines
-pub mod Puts
 pub mod ReadyLists
 pub mod Rounds
 pub mod Same

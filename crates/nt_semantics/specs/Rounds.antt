@@ -15,7 +15,7 @@ use Rattle.nt_semantics.specs.State.{MachineState, is_comb, start_state, standin
 use Rattle.nt_semantics.specs.declared.standing.Standing.{Standing}
 use Rattle.nt_semantics.specs.declared.standing.Standing.TheVariants.{Ready, Inactive, Later, Waits}
 use Rattle.nt_semantics.specs.Step.{step, may_begin, is_some_put}
-use Rattle.nt_semantics.specs.declared.deed.Put.{Put}
+use Rattle.nt_design.specs.declared.put.Put.{Put}
 use Rattle.nt_semantics.specs.declared.event.Event.{Event}
 use Rattle.nt_semantics.specs.declared.event.Event.TheVariants.{Stmt, Assign as AssignEvent, Update, Resolve}
 use Rattle.nt_semantics.specs.declared.event.Entry.{Entry}

@@ -1,8 +1,10 @@
 -- Which states are of a design: what each step and each move keeps.
-use Rattle.std.specs.Prelude.{◌≡◌, ⊤, ℕ, zero, suc, ◌+◌, ◌≤◌, ◌<◌, ◌^◌, List, [], ◌∷◌, ◌++◌, length, map, All, Contains, Option, Some, None, option_to_list, slice_get}
-use Rattle.nt_value.specs.Values.{shape_of}
+use Rattle.std.specs.Prelude.{◌≡◌, ⊤, ℕ, ◌≤◌, ◌<◌, ◌^◌, List, [], ◌∷◌, ◌++◌, length, map, All, Contains, Option, Some, None, option_to_list, slice_get}
+use Rattle.nt_value.specs.Digits.{IsFilled}
+use Rattle.nt_value.specs.Values.{AreValuesOf, shape_of}
 use Rattle.nt_value.specs.declared.leaf.Leaf.{Leaf}
-use Rattle.nt_design.specs.Parts.{Value, leaves_at}
+use Rattle.nt_design.specs.Parts.{Value}
+use Rattle.nt_design.specs.Puts.{PutInside}
 use Rattle.nt_design.specs.WellFormed.{net_shapes, var_shapes}
 use Rattle.nt_design.specs.declared.act.Act.{Act, out-Act}
 use Rattle.nt_design.specs.declared.act.Act.TheOpen.{Act-F}
@@ -18,19 +20,14 @@ use Rattle.nt_semantics.specs.declared.standing.Standing.TheVariants.{Unbegun, R
 use Rattle.nt_semantics.specs.declared.work.Work.{Work}
 use Rattle.nt_semantics.specs.declared.work.Work.TheVariants.{Do, Testing, Stepping, Repeating, Counting, Each, Awaiting}
 use Rattle.nt_semantics.specs.Step.{copies_of}
-use Rattle.nt_semantics.specs.declared.deed.Put.{Put}
+use Rattle.nt_design.specs.declared.put.Put.{Put}
 use Rattle.nt_semantics.specs.declared.event.Event.{Event}
 
 -- ---- writes
--- a write of whole leaves lies inside a variable of this shape, or one of digits inside one leaf
-abbrev pub PutInside : List Leaf → ℕ → ℕ → ℕ → List Leaf → Type 0
-PutInside shape first low zero new = leaves_at first (length new) shape ≡ new
-PutInside shape first low (suc n) new =
-    (leaf written : Leaf) × ((slice_get shape first ≡ Some leaf) × ((new ≡ written ∷ []) × ((written.width ≡ suc n) × (low + suc n ≤ leaf.width))))
-
+-- a write lies inside its variable
 abbrev pub PutFits : Design → Put → Type 0
 PutFits d put =
-    (put.var < length d.vars) × PutInside (var_shape d put.var) put.first put.low put.width (shape_of put.value)
+    (put.var < length d.vars) × PutInside (var_shape d put.var) put.first put.low put.width put.value
 
 -- ---- what a procedure has to do
 -- the statements that stand in a statement
@@ -119,16 +116,17 @@ slot_shape d (target.Slot n slot low width) = net_shape d n
 slot_shape d (target.Var v path) = []
 slot_shape d (target.Local i path) = []
 
--- a state of this design: a moment up to the greatest time limit (own), values of the right leaves, an item for each in each
+-- a state of this design: a moment up to the greatest time limit (own), values of the right shapes, an item for each in each
 -- column, and procedures and updates that fit
 pub record IsStateOf (d : Design) (s : MachineState) : Type 0 where
   pub moment : s.moment ≤ 2 ^ 48
-  pub vars : map shape_of s.vars ≡ var_shapes d
-  pub nets : map shape_of s.nets ≡ net_shapes d
-  pub slots : map shape_of s.slots ≡ map (λ (assign : Assign). slot_shape d assign.target) d.assigns
+  pub vars : AreValuesOf (var_shapes d) s.vars
+  pub nets : AreValuesOf (net_shapes d) s.nets
+  pub slots : AreValuesOf (map (λ (assign : Assign). slot_shape d assign.target) d.assigns) s.slots
   pub standings : length s.standings ≡ length d.procs
   pub work : length s.work ≡ length d.procs
   pub locals : map (map shape_of) s.locals ≡ map (λ (p : Proc). p.locals) d.procs
+  pub locals_filled : All (All (All IsFilled)) s.locals
   pub fresh : length s.fresh ≡ length d.procs
   pub evaluations : length s.evaluations ≡ length d.assigns
   pub resolutions : length s.resolutions ≡ length d.nets

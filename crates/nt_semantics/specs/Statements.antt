@@ -12,11 +12,11 @@ use Rattle.nt_design.specs.declared.target.Target.{Target}
 use Rattle.nt_design.specs.declared.target.Target.TheVariants as target
 use Rattle.nt_design.specs.declared.tree.Tree.{Tree}
 use Rattle.nt_semantics.specs.Lines.{line_of}
-use Rattle.nt_semantics.specs.Puts.{put_of}
+use Rattle.nt_design.specs.Puts.{put_of}
 use Rattle.nt_semantics.specs.State.{to_do, value_at}
 use Rattle.nt_semantics.specs.declared.work.Work.{Work}
 use Rattle.nt_semantics.specs.declared.work.Work.TheVariants.{Do, Testing, Stepping, Repeating, Counting, Each, Awaiting}
-use Rattle.nt_semantics.specs.declared.deed.Put.{Put}
+use Rattle.nt_design.specs.declared.put.Put.{Put}
 use Rattle.nt_semantics.specs.declared.deed.Deed.{Deed}
 use Rattle.nt_semantics.specs.declared.deed.Deed.TheVariants as deed
 

@@ -16,7 +16,7 @@ use Rattle.nt_design.specs.declared.object.Object.TheVariants as object
 use Rattle.nt_design.specs.declared.process.Assign.{Assign}
 use Rattle.nt_design.specs.declared.target.Target.{Target}
 use Rattle.nt_design.specs.declared.target.Target.TheVariants as target
-use Rattle.nt_semantics.specs.Puts.{after_put, leaves_put}
+use Rattle.nt_design.specs.Puts.{after_put, leaves_put}
 use Rattle.nt_semantics.specs.Same.{is_same, is_listed}
 use Rattle.nt_semantics.specs.State.{MachineState, going_on, standing_at, work_at, locals_at, count_at, value_at, net_shape, more, fewer, world_of_state, z_value}
 use Rattle.nt_semantics.specs.declared.standing.Standing.{Standing}
@@ -24,7 +24,7 @@ use Rattle.nt_semantics.specs.declared.standing.Standing.TheVariants.{Unbegun, R
 use Rattle.nt_semantics.specs.declared.work.Work.{Work}
 use Rattle.nt_semantics.specs.Statements.{work_step}
 use Rattle.nt_semantics.specs.Wake.{wake, functions_of}
-use Rattle.nt_semantics.specs.declared.deed.Put.{Put}
+use Rattle.nt_design.specs.declared.put.Put.{Put}
 use Rattle.nt_semantics.specs.declared.deed.Deed.{Deed}
 use Rattle.nt_semantics.specs.declared.deed.Deed.TheVariants as deed
 use Rattle.nt_semantics.specs.declared.event.Event.{Event}

@@ -10,7 +10,7 @@ mod process;
 mod standing;
 mod work;
 
-pub use deed::{Deed, Put};
+pub use deed::Deed;
 pub use event::{Entry, Event, Order};
 pub use laws::{
     again_changes_nothing, ended_is_followed, execution_fits, move_fills, move_keeps, move_stays,
@@ -19,6 +19,7 @@ pub use laws::{
     witness_is_one,
 };
 pub use moved::Moved;
+pub use nt_design::Put;
 pub use process::Process;
 pub use standing::Standing;
 pub use work::Work;

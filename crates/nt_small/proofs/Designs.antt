@@ -1,15 +1,18 @@
 -- The design of a source is well formed.
-use Rattle.std.proofs.Common.{◌≡◌, ◌↔◌, ℕ, zero, suc, ◌≤◌, List, [], ◌∷◌, length, map, Option, Some, None, slice_get, option_map, option_to_list, unwrap_or, inr, refl, sym, ◌∙◌, ap, subst, arith}
+use Rattle.std.proofs.Common.{◌≡◌, ◌↔◌, ℕ, zero, suc, ◌+◌, ◌<◌, ◌≤◌, List, [], ◌∷◌, length, map, Option, Some, None, slice_get, option_map, option_to_list, unwrap_or, inr, refl, sym, ◌∙◌, ap, subst, arith}
 use Rattle.std.specs.List.{Contains, flat_map, range_with_len}
 use Rattle.std.proofs.lemmas.List.{length-map}
+use Rattle.std.proofs.lemmas.List.Elements.{Contains-append_right}
 use Rattle.std.proofs.lemmas.Option.{slice_get-map}
 use Rattle.nt_design.specs.Shapes.{target_shape, on_shape, slot_shape}
-use Rattle.nt_design.specs.WellFormed.{IsDesign, IsNet, IsAssign, IsChain, Drives, Assigns, called_by, scope_with}
+use Rattle.nt_design.specs.WellFormed.{IsDesign, IsNet, IsAssign, IsChain, IsObject, Drives, Assigns, called_by, design_scope, named_objects, scope_with}
 use Rattle.nt_design.specs.Plain.{IsPlain, IsConstantDriver}
 use Rattle.nt_design.specs.declared.design.Design.{Design}
 use Rattle.nt_design.specs.declared.object.Net.{Net}
 use Rattle.nt_design.specs.declared.object.NetKind.TheVariants.{Unresolved}
+use Rattle.nt_design.specs.declared.object.Object.{Object}
 use Rattle.nt_design.specs.declared.object.Object.TheVariants as object
+use Rattle.nt_design.proofs.Filled.{int_filled}
 use Rattle.nt_design.proofs.Constants.{shape_const, time_const, reads_const}
 use Rattle.nt_design.specs.declared.target.Target.TheVariants.{Slot, Var as VarTarget}
 use Rattle.nt_design.specs.declared.process.Assign.{Assign}
@@ -73,6 +76,17 @@ no_chain d [] none chain = omega arith
 no_chain d (f ∷ []) none chain = omega arith
 no_chain d (f ∷ g ∷ fs) none chain = absurd (no_member g (subst (λ functions. Contains (called_by (slice_get functions f)) g) none chain.0))
 
+-- a number of a range is the net of that number
+net_in_range : (from count n : ℕ) → n < count → Contains (map (λ n. object.Net n) (range_with_len from count)) (object.Net (from + n))
+net_in_range from zero n below = absurd (omega (arith, below))
+net_in_range from (suc count) zero below =
+    let e : from ≡ from + 0 = omega arith in
+    (0, omega arith, ap (λ k. object.Net k) e)
+net_in_range from (suc count) (suc n) below =
+    let e : from + 1 + n ≡ from + suc n = omega arith in
+    Contains-append_right (object.Net from ∷ []) (map (λ n. object.Net n) (range_with_len ((from + 1)) count)) (object.Net (from + suc n))
+    (subst (λ k. Contains (map (λ n. object.Net n) (range_with_len ((from + 1)) count)) (object.Net k)) e (net_in_range ((from + 1)) count n (omega (arith, below))))
+
 -- a number drives a whole net
 constant_driver : (names : List (List ℕ)) (net digits : List ℕ) → IsConstantDriver (assign_of_drive names net digits)
 constant_driver names net digits = record {
@@ -93,7 +107,7 @@ module _ (s : Source) (sound : AreSound s.items) where
           let assign = assign_at (declared_nets s.items) s.items a name (at_position name (driven_nets s.items) a one.1) in
           (assign_of_drive (declared_nets s.items) name assign.0, assign.1, (ap (λ o. unwrap_or o 0) (position_distinct (declared_nets s.items) n name sound.declared at), sym one.0))
 
-  is_assign : (a : ℕ) (name digits : List ℕ) → slice_get (driven_nets s.items) a ≡ Some name → IsAssign (design_of s) a (assign_of_drive (declared_nets s.items) name digits)
+  is_assign : (a : ℕ) (name digits : List ℕ) → slice_get (driven_nets s.items) a ≡ Some name → IsAssign (design_scope (design_of s)) (design_of s).nets a (assign_of_drive (declared_nets s.items) name digits)
   is_assign a name digits at =
       let known = position_there name (declared_nets s.items) (sound.listed name (Contains-from_at (driven_nets s.items) a name at)) in
       let net = net_of_name s.top (driven_nets s.items) in
@@ -102,7 +116,7 @@ module _ (s : Source) (sound : AreSound s.items) where
       let found : slice_get (map net (declared_nets s.items)) (unwrap_or (position_of name (declared_nets s.items)) 0) ≡ Some (net name) = ap (λ o. slice_get (map net (declared_nets s.items)) (unwrap_or o 0)) known.1 ∙ there in
       record {
         target = (net name, found, ap (λ o. slice_get (option_to_list o) 0) (position_distinct (driven_nets s.items) a name sound.driven at), inr (refl, refl));
-        shape = (int_leaf ∷ [], shape_found (design_of s) (unwrap_or (position_of name (declared_nets s.items)) 0) (net name) found, shape_const (scope_with (design_of s) [] None) (int_value (number_of_digits digits)));
+        shape = (int_leaf ∷ [], shape_found (design_of s) (unwrap_or (position_of name (declared_nets s.items)) 0) (net name) found, shape_const (scope_with (design_of s) [] None) (int_value (number_of_digits digits)) (int_filled (number_of_digits digits)));
         no_time = time_const (int_value (number_of_digits digits));
         reads = λ o. subst (λ l. Contains [] o ↔ Contains l o) (sym (reads_const (int_value (number_of_digits digits)))) (λ c. c, λ c. c);
       }
@@ -118,15 +132,16 @@ module _ (s : Source) (sound : AreSound s.items) where
     nets = λ n net at. let name = at_map (net_of_name s.top (driven_nets s.items)) (declared_nets s.items) n net at in subst (λ m. IsNet (design_of s) n m) name.2 (is_net n name.0 name.1);
     vars = λ v var at. absurd (at_none var at);
     procs = λ p proc at. absurd (at_none proc at);
-    assigns = λ a assign at. let drive = at_assigns (declared_nets s.items) s.items a assign at in subst (λ m. IsAssign (design_of s) a m) drive.3 (is_assign a drive.0 drive.1 drive.2);
+    assigns = λ a assign at. let drive = at_assigns (declared_nets s.items) s.items a assign at in subst (λ m. IsAssign (design_scope (design_of s)) (design_of s).nets a m) drive.3 (is_assign a drive.0 drive.1 drive.2);
     functions = λ f function at. absurd (at_none function at);
-    called = λ f function called at. absurd (at_none function at);
     writers = record {
       one_assign = λ a b v p q. absurd (no_variable a v p);
       no_write = λ a p v x y. no_variable a v x;
       one_writer = λ p q v sole x y. absurd (at_none sole.0 sole.1);
     };
     scopes = all_scoped (design_of s) s.top (declared_nets s.items) (sym (length-map (declared_nets s.items) (net_of_name s.top (driven_nets s.items))));
+    named = names;
+    unit = omega arith;
     small = record {
       nets = omega (arith, few, length-map (declared_nets s.items) (net_of_name s.top (driven_nets s.items)));
       vars = omega arith;
@@ -134,6 +149,15 @@ module _ (s : Source) (sound : AreSound s.items) where
       chains = λ fs chain. no_chain (design_of s) fs refl chain;
     };
   }
+    where
+      long : length (design_of s).nets ≡ length (declared_nets s.items)
+      long = length-map (declared_nets s.items) (net_of_name s.top (driven_nets s.items))
+
+      names : (o : Object) → IsObject (design_of s) o → Contains (named_objects (design_of s)) o
+      names (object.Var v) below = absurd (omega (arith, below))
+      names (object.Net n) below =
+          let same : 0 + n ≡ n = omega arith in
+          subst (λ l. Contains l (object.Net n)) (sym (all_named s.top (declared_nets s.items))) (subst (λ k. Contains (map (λ m. object.Net m) (range_with_len 0 (length (declared_nets s.items)))) (object.Net k)) same (net_in_range 0 (length (declared_nets s.items)) n (omega (arith, below, long))))
 
   pub design_plain : IsPlain (design_of s)
   design_plain = record {

@@ -1,6 +1,6 @@
 // A design of two nets, performed event by event.
 ghost use Rattle.std.specs.Prelude.{◌≡◌, ◌<◌, ◌≤◌, ◌+◌, ◌^◌, IfOk, OnOk, ℕ, [], ◌∷◌, length, Some};
-ghost use Rattle.nt_value.specs.Values.{shape_of};
+ghost use Rattle.nt_value.specs.Values.{IsValueOf};
 ghost use Rattle.nt_design.specs.Parts.{Value as ValueOf};
 ghost use Rattle.nt_design.specs.Plain.{IsPlain};
 ghost use Rattle.nt_design.specs.WellFormed.{IsDesign};
@@ -33,9 +33,11 @@ fn int(alloc: Global) -> Result<Shape, AllocError>
 
 fn number(alloc: Global, number: u64) -> Result<Value, AllocError>
     requires { number < 2 ^ 32 }
-    ensures { IfOk result (λ value. shape_of value ≡ Leaf.INT ∷ []) }
+    ensures { IfOk result (λ value. IsValueOf (Leaf.INT ∷ []) value) }
 {
-    Ok(Value::new(vec![in alloc; Bits::number(Leaf::INT, number)]?))
+    let value = Value::new(vec![in alloc; Bits::number(Leaf::INT, number)]?);
+    let _leaves = value.items();
+    Ok(value)
 }
 
 fn scoped(alloc: Global, name: &[u8], net: u32) -> Result<Scoped, AllocError>
@@ -62,7 +64,7 @@ fn joined(alloc: Global, driven: Net, floating: Net, assign: Assign) -> Result<D
     requires kind { driven.kind ≡ Unresolved }
     requires other_kind { floating.kind ≡ Unresolved }
     requires target { assign.target ≡ Slot 0 0 0 0 }
-    requires right { (value : ValueOf) × (assign.right ≡ Const value) × (shape_of value ≡ driven.shape) }
+    requires right { (value : ValueOf) × (assign.right ≡ Const value) × (IsValueOf driven.shape value) }
     requires reads { assign.reads ≡ [] }
     ensures design { IfOk result (λ design. IsDesign design) }
     ensures plain { IfOk result (λ design. IsPlain design) }
@@ -96,7 +98,7 @@ fn net(alloc: Global, name: &[u8], slots: Items<u32>) -> Result<Net, AllocError>
 
 fn driver(alloc: Global) -> Result<Assign, AllocError>
     ensures target { IfOk result (λ assign. assign.target ≡ Slot 0 0 0 0) }
-    ensures right { IfOk result (λ assign. (value : ValueOf) × (assign.right ≡ Const value) × (shape_of value ≡ Leaf.INT ∷ [])) }
+    ensures right { IfOk result (λ assign. (value : ValueOf) × (assign.right ≡ Const value) × (IsValueOf (Leaf.INT ∷ []) value)) }
     ensures reads { IfOk result (λ assign. assign.reads ≡ []) }
 {
     let value = number(alloc, 5)?;
