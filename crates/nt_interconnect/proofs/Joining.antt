@@ -1,11 +1,10 @@
 -- One segment more.
-use Rattle.std.proofs.Common.{◌≡◌, ◌⊎◌, ℕ, zero, suc, ◌+◌, ◌<◌, ◌≤◌, List, length, get_or, Option, Some, None, Result, Ok, Err, inl, inr, refl, sym, ap, subst, ◌∙◌, arith}
+use Rattle.std.proofs.Common.{◌≡◌, ℕ, ◌+◌, ◌<◌, List, Some, Ok, Err, inl, inr, refl, sym, ap, subst, arith}
 use Rattle.std.specs.Prelude.{slice_get}
 use Rattle.std.proofs.lemmas.Bool.{cases_eq}
 use Rattle.nt_diag.specs.declared.rule.Rule.{Rule}
-use Rattle.nt_diag.specs.declared.rule.Rule.TheVariants.{P5}
 use Rattle.nt_value.specs.declared.leaf.Leaf.{Leaf}
-use Rattle.nt_interconnect.specs.Types.{Declares, leaf, nettype, Matches, takes, has, TypeWithin, untyped, typed, IsUnlike, built_in_first, nettype_first, FirstUnlike, TypeOf, Joins}
+use Rattle.nt_interconnect.specs.Types.{Declares, leaf, nettype, Matches, takes, has, TypeWithin, untyped, typed, IsUnlike, FirstUnlike, Joins}
 use Rattle.nt_interconnect.specs.declared.types.NetType.{NetType}
 use Rattle.nt_interconnect.specs.declared.types.NetType.TheVariants as net
 use Rattle.nt_interconnect.specs.declared.types.SegmentKind.{SegmentKind}

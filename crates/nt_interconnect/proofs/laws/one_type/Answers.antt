@@ -1,4 +1,5 @@
+use Rattle.nt_interconnect.proofs.Unique.{one}
 use Rattle.nt_interconnect.proofs.laws.one_type.Goals as goal
 
 pub returns : goal.returns
-returns c = ?
+returns c = one

@@ -1,4 +1,4 @@
-use Rattle.std.proofs.Common.{◌≡◌, sym, subst}
+use Rattle.std.proofs.Common.{sym, subst}
 use Rattle.nt_diag.specs.declared.rule.Rule.TheVariants.{P5}
 use Rattle.nt_interconnect.specs.Types.{IsUnlike, built_in_first, nettype_first}
 use Rattle.nt_interconnect.specs.declared.types.NetType.TheVariants as net
@@ -18,7 +18,7 @@ returns-in-User-BuiltIn c =
     let x = c.in-User-BuiltIn in
     let l = x.field-0-1 in
     clashes c.args.before c.args.next (net.BuiltIn l) P5 (leaf_of c.args.next l x.is-1)
-        (subst (λ t. IsUnlike t (net.BuiltIn l) P5) (sym x.is-0) (nettype_first x.field-0-0 l))
+    (subst (λ t. IsUnlike t (net.BuiltIn l) P5) (sym x.is-0) (nettype_first x.field-0-0 l))
 
 pub returns-in-Untyped-User : goal.returns-in-Untyped-User
 returns-in-Untyped-User c =
@@ -30,4 +30,4 @@ returns-in-BuiltIn-User c =
     let x = c.in-BuiltIn-User in
     let n = x.field-0-1 in
     clashes c.args.before c.args.next (net.User n) P5 (nettype_of c.args.next n x.is-1)
-        (subst (λ t. IsUnlike t (net.User n) P5) (sym x.is-0) (built_in_first x.field-0-0 n))
+    (subst (λ t. IsUnlike t (net.User n) P5) (sym x.is-0) (built_in_first x.field-0-0 n))

@@ -1,5 +1,5 @@
-use Rattle.std.proofs.Common.{refl, ap, inl, subst}
-use Rattle.nt_interconnect.specs.Types.{Matches, has, Declares, nettype, nettypes}
+use Rattle.std.proofs.Common.{refl, inl, subst}
+use Rattle.nt_interconnect.specs.Types.{Matches, has, nettype, nettypes}
 use Rattle.nt_interconnect.specs.declared.types.NetType.TheVariants as net
 use Rattle.nt_interconnect.specs.declared.types.SegmentKind.TheVariants as kind
 use Rattle.nt_interconnect.proofs.types.nettypes.Goals as goal
