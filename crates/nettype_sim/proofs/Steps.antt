@@ -1,25 +1,24 @@
 -- How a run goes on by one event.
-use Rattle.std.proofs.Common.{◌≡◌, inl, inr, ◌⊎◌, ℕ, zero, suc, ◌+◌, ◌-◌, ◌<◌, ◌≤◌, ◌^◌, Bool, true, false, ◌||◌, ◌&&◌, ◌==◌, nat_lt, lt-ltb, if◌then◌else◌, List, [], ◌∷◌, ◌++◌, length, get_or, Option, Some, None, slice_get, option_and_then, replicate, refl, sym, ◌∙◌, ap, subst, arith, get_or-set_same, get_or-set_other, IsSome}
+use Rattle.std.proofs.Common.{◌≡◌, inl, inr, ◌⊎◌, ℕ, zero, suc, ◌+◌, ◌-◌, ◌<◌, ◌≤◌, ◌^◌, Bool, true, false, ◌||◌, ◌&&◌, ◌==◌, nat_lt, lt-ltb, if◌then◌else◌, List, [], ◌∷◌, ◌++◌, length, Option, Some, None, slice_get, option_and_then, replicate, refl, sym, ◌∙◌, ap, subst, arith, get_or-set_same, get_or-set_other, IsSome}
 use Rattle.std.specs.List.{All, list_any, range_with_len}
 use Rattle.std.proofs.lemmas.Bool.{cases_eq}
 use Rattle.std.proofs.lemmas.List.{flat_map_more, replicate_more, get_or_past, get_or-replicate}
 use Rattle.std.proofs.lemmas.List.Elements.{All-append, All-nil, All-cons}
 use Rattle.std.proofs.lemmas.Option.{none-some}
-use Rattle.nt_design.specs.Parts.{Value}
 use Rattle.nt_design.specs.Plain.{IsPlain}
 use Rattle.nt_design.specs.WellFormed.{IsDesign}
 use Rattle.nt_design.specs.declared.design.Design.{Design}
 use Rattle.nt_machine.specs.Plain.{IsPlainState}
 use Rattle.nt_semantics.specs.Same.{is_same}
-use Rattle.nt_semantics.specs.State.{MachineState, start_state, value_at, place_at, count_at, fewer, more}
+use Rattle.nt_semantics.specs.State.{MachineState, start_state, value_at, count_at, fewer, more}
 use Rattle.nt_semantics.specs.StateFits.{IsStateOf, AtMost}
 use Rattle.nt_semantics.specs.Step.{step, is_pending_at, is_some_put}
-use Rattle.nt_semantics.specs.Execution.{IsComplete, run, settle, is_active, expansion, copies, is_entry, may_repeat, reads_own_target, reads_target}
+use Rattle.nt_semantics.specs.Execution.{IsComplete, run, settle, is_active, expansion, copies, is_entry}
 use Rattle.nt_semantics.specs.declared.event.Event.{Event}
 use Rattle.nt_semantics.specs.declared.event.Event.TheVariants.{Stmt, Assign, Update, Resolve}
 use Rattle.nt_semantics.specs.declared.event.Entry.{Entry}
 use Rattle.nt_machine.proofs.Counts.{at_most_counts}
-use Rattle.nt_machine.proofs.Moves.{settled, step_still}
+use Rattle.nt_machine.proofs.Moves.{settled}
 use Rattle.nt_semantics.proofs.StartFitting.{start_fits}
 use Rattle.nt_machine.proofs.Starts.{start_still}
 use Rattle.nt_machine.proofs.Steps.{can_evaluate, can_resolve, evaluated_to, resolved_to}
