@@ -12,7 +12,7 @@ use Rattle.nt_design.specs.Plain.{IsPlain}
 use Rattle.nt_machine.specs.Plain.{IsPlainState}
 use Rattle.nt_semantics.specs.State.{MachineState, start_state}
 use Rattle.nt_semantics.specs.Execution.{Execution, IsComplete, run, expansion, copies, ended, seen, is_active, is_inactive, is_entry, Observation, observation_of}
-use Rattle.nt_semantics.specs.Texts.{entry_line, entry_lines, witness_head, witness_end, witness_text, slot_text, slots_text, end_text, finish_text, trace_text}
+use Rattle.nt_semantics.specs.Texts.{entry_line, entry_lines, witness_head, witness_end, witness_text, slot_text, slots_text, end_text, finish_text, last_text, trace_text, IsWritten}
 use Rattle.nt_semantics.specs.declared.event.Entry.{Entry}
 use Rattle.nettype_sim.specs.Writes.{IsFront, GainsFront, GainsPart, Opened, Filed}
 use Rattle.nettype_sim.specs.Runs.{CutOff, IsLastPart, IsCutWitness, RunsWhole, RunsInPart}
@@ -40,16 +40,16 @@ part_behind a b c x y first (n, below, gained) =
     (length x + n, gained_same a c (x ++ take n y) (take (length x + n) (x ++ y)) (sym (take-append-add x y n)) (gained_then first gained))
 
 -- the text of one slot, and the end of the run
-pub trace_written : (d : Design) (seen : Observation) (a b c : SinkMeaning) (text last : List ℕ) → text ≡ slot_text d None seen → last ≡ end_text 0 → Gained a b text → Gained b c last → Gained a c (slot_text d None seen ++ end_text 0)
-trace_written d seen a b c text last is ends first second =
-    gained_then (gained_same a b text (slot_text d None seen) is first) (gained_same b c last (end_text 0) ends second)
+pub trace_written : (until : ℕ) (d : Design) (seen : Observation) (a b c : SinkMeaning) (text last : List ℕ) → text ≡ slot_text d None seen → last ≡ end_text until → Gained a b text → Gained b c last → Gained a c (slot_text d None seen ++ end_text until)
+trace_written until d seen a b c text last is ends first second =
+    gained_then (gained_same a b text (slot_text d None seen) is first) (gained_same b c last (end_text until) ends second)
 
-pub trace_cut_in_slot : (d : Design) (seen : Observation) (a b : SinkMeaning) (text : List ℕ) → text ≡ slot_text d None seen → GainsFront a b text → GainsPart a b (slot_text d None seen ++ end_text 0)
-trace_cut_in_slot d seen a b text is front =
-    subst (λ (l : List ℕ). GainsPart a b (l ++ end_text 0)) is (part_before a b text (end_text 0) front)
+pub trace_cut_in_slot : (until : ℕ) (d : Design) (seen : Observation) (a b : SinkMeaning) (text : List ℕ) → text ≡ slot_text d None seen → GainsFront a b text → GainsPart a b (slot_text d None seen ++ end_text until)
+trace_cut_in_slot until d seen a b text is front =
+    subst (λ (l : List ℕ). GainsPart a b (l ++ end_text until)) is (part_before a b text (end_text until) front)
 
-pub trace_cut_in_end : (d : Design) (seen : Observation) (a b c : SinkMeaning) (text last : List ℕ) → text ≡ slot_text d None seen → last ≡ end_text 0 → Gained a b text → GainsFront b c last → GainsPart a c (slot_text d None seen ++ end_text 0)
-trace_cut_in_end d seen a b c text last is ends first front =
+pub trace_cut_in_end : (until : ℕ) (d : Design) (seen : Observation) (a b c : SinkMeaning) (text last : List ℕ) → text ≡ slot_text d None seen → last ≡ end_text until → Gained a b text → GainsFront b c last → GainsPart a c (slot_text d None seen ++ end_text until)
+trace_cut_in_end until d seen a b c text last is ends first front =
     subst (λ (l : List ℕ). GainsPart a c l) (λ i. is i ++ ends i) (part_behind a b c text last first front)
 
 -- a front of the lines of entries: the lines of the first of them, and a last part
@@ -72,19 +72,19 @@ lt_or_more (suc k) (suc n) = elim (lt_or_more k n) [
   | inr past ↦ inr (past.0, omega (arith, past.1))
 ]
 
-cut_lines : (entries : List Entry) (n : ℕ) → CutLines entries (take n (entry_lines entries))
-cut_lines [] zero = record { whole = []; rest = []; part = []; entries_are = refl; last = no_part; text_is = refl }
-cut_lines [] (suc n) = record { whole = []; rest = []; part = []; entries_are = refl; last = no_part; text_is = refl }
-cut_lines (e ∷ es) n = elim (lt_or_more n (length (entry_line e))) [
+cut_lines : (entries : List Entry) (n : ℕ) → All IsWritten entries → CutLines entries (take n (entry_lines entries))
+cut_lines [] zero w = record { whole = []; rest = []; part = []; entries_are = refl; last = no_part; text_is = refl }
+cut_lines [] (suc n) w = record { whole = []; rest = []; part = []; entries_are = refl; last = no_part; text_is = refl }
+cut_lines (e ∷ es) n w = elim (lt_or_more n (length (entry_line e))) [
   | inl below ↦ record {
     whole = [];
     rest = e ∷ es;
     part = take n (entry_line e);
     entries_are = refl;
-    last = inl (e, (n, below, refl));
+    last = inl (e, (All-head IsWritten e es w, (n, below, refl)));
     text_is = take-append-le n (entry_line e) (entry_lines es) (omega (arith, below));
   }
-  | inr past ↦ further past.0 past.1 (cut_lines es past.0)
+  | inr past ↦ further past.0 past.1 (cut_lines es past.0 (All-tail IsWritten e es w))
 ]
   where
     further : (m : ℕ) → n ≡ length (entry_line e) + m → CutLines es (take m (entry_lines es)) → CutLines (e ∷ es) (take n (entry_lines (e ∷ es)))
@@ -116,82 +116,84 @@ no_entries : (until : ℕ) (d : Design) → Execution until d [] (start_state d)
 no_entries until d = record { counted = All-nil (λ (e : Entry). is_entry d e ≡ true); runs = refl }
 
 -- a run that is cut off before its trace begins
-untraced : (until : ℕ) (d : Design) (entries : List Entry) (reached : MachineState) (file : List ℕ) → Execution until d entries reached → IsCutWitness entries file → CutOff until d file []
-untraced until d entries reached file execution witness_is = record {
+untraced : (until : ℕ) (d : Design) (entries : List Entry) (reached : MachineState) (file : List ℕ) → Execution until d entries reached → All IsWritten entries → IsCutWitness entries file → CutOff until d file []
+untraced until d entries reached file execution written witness_is = record {
   entries = entries;
   reached = reached;
   execution = execution;
+  written = written;
   witness_is = witness_is;
-  trace_is = (0, refl);
-  ended_only = inl refl;
+  trace_is = inl (0, refl);
 }
 
-pub cut_in_head : (d : Design) (t a b : SinkMeaning) → GainsFront a b witness_head → RunsInPart 0 d t t a b
-cut_in_head d t a b (n, below, gained) =
-    (take n witness_head, [], untraced 0 d [] (start_state d) (take n witness_head) (no_entries 0 d) (inl (refl, (n, below, refl))), gained, gained_nothing)
+pub cut_in_head : (until : ℕ) (d : Design) (t a b : SinkMeaning) → GainsFront a b witness_head → RunsInPart until d t t a b
+cut_in_head until d t a b (n, below, gained) =
+    (take n witness_head, [], untraced until d [] (start_state d) (take n witness_head) (no_entries until d) (All-nil IsWritten) (inl (refl, (n, below, refl))), gained, gained_nothing)
 
-pub cut_behind_head : (d : Design) (t a b : SinkMeaning) → Gained a b witness_head → RunsInPart 0 d t t a b
-cut_behind_head d t a b gained =
-    (witness_head, [], untraced 0 d [] (start_state d) witness_head (no_entries 0 d) (inr ([], no_part, sym (append-nil witness_head))), gained, gained_nothing)
+pub cut_behind_head : (until : ℕ) (d : Design) (t a b : SinkMeaning) → Gained a b witness_head → RunsInPart until d t t a b
+cut_behind_head until d t a b gained =
+    (witness_head, [], untraced until d [] (start_state d) witness_head (no_entries until d) (All-nil IsWritten) (inr ([], no_part, sym (append-nil witness_head))), gained, gained_nothing)
 
-pub cut_in_entries : (d : Design) (entries : List Entry) (s : MachineState) (t a b c : SinkMeaning) → Execution 0 d entries s → Gained a b witness_head → GainsPart b c (entry_lines entries) → RunsInPart 0 d t t a c
-cut_in_entries d entries s t a b c execution head (n, gained) =
-    let cut = cut_lines entries n in
-    let front = execution_front 0 d cut.whole cut.rest s (subst (λ (es : List Entry). Execution 0 d es s) cut.entries_are execution) in
-    (witness_head ++ take n (entry_lines entries), [], untraced 0 d cut.whole front.0 _ front.1 (inr (cut.part, cut.last, ap (λ (l : List ℕ). witness_head ++ l) cut.text_is)), gained_then head gained, gained_nothing)
+pub cut_in_entries : (until : ℕ) (d : Design) (entries : List Entry) (s : MachineState) (t a b c : SinkMeaning) → Execution until d entries s → All IsWritten entries → Gained a b witness_head → GainsPart b c (entry_lines entries) → RunsInPart until d t t a c
+cut_in_entries until d entries s t a b c execution written head (n, gained) =
+    let cut = cut_lines entries n written in
+    let front = execution_front until d cut.whole cut.rest s (subst (λ (es : List Entry). Execution until d es s) cut.entries_are execution) in
+    let first = all_front IsWritten cut.whole cut.rest (subst (λ (es : List Entry). All IsWritten es) cut.entries_are written) in
+    (witness_head ++ take n (entry_lines entries), [], untraced until d cut.whole front.0 _ front.1 first (inr (cut.part, cut.last, ap (λ (l : List ℕ). witness_head ++ l) cut.text_is)), gained_then head gained, gained_nothing)
 
 -- the trace of a run of nets and constants: its one slot, and the end
-module _ (d : Design) (entries : List Entry) (s : MachineState) (execution : Execution 0 d entries s) (plain : IsPlain d) (still : IsPlainState s) (complete : IsComplete 0 s) where
+module _ (until : ℕ) (d : Design) (entries : List Entry) (s : MachineState) (execution : Execution until d entries s) (written : All IsWritten entries) (plain : IsPlain d) (still : IsPlainState s) (complete : IsComplete until s) where
   slot_over : seen s ≡ observation_of s ∷ []
   slot_over =
-      ap (λ b. if not b && (not (list_any is_inactive s.places) && not (is_some_put s.nonblocking)) then observation_of s ∷ [] else []) (ap is_active (sym (settled 0 s still)) ∙ complete)
-      ∙ ap (λ places. if not (list_any is_inactive places) && not (is_some_put s.nonblocking) then observation_of s ∷ [] else []) still.places
+      ap (λ b. if not b && (not (list_any is_inactive s.standings) && not (is_some_put s.nonblocking)) then observation_of s ∷ [] else []) (ap is_active (sym (settled until s still)) ∙ complete)
+      ∙ ap (λ places. if not (list_any is_inactive places) && not (is_some_put s.nonblocking) then observation_of s ∷ [] else []) still.standings
       ∙ ap (λ puts. if not (is_some_put puts) then observation_of s ∷ [] else []) still.nonblocking
 
-  ended_there : ended 0 d (expansion entries) (start_state d) ≡ observation_of s ∷ []
+  ended_there : ended until d (expansion entries) (start_state d) ≡ observation_of s ∷ []
   ended_there =
-      ended_last 0 d (expansion entries) (start_state d) s plain (start_still d plain) execution.runs ∙ slot_over
+      ended_last until d (expansion entries) (start_state d) s plain (start_still d plain) execution.runs ∙ slot_over
 
   one_slot : slots_text d None (observation_of s ∷ []) ≡ slot_text d None (observation_of s)
   one_slot = append-nil (slot_text d None (observation_of s))
 
-  trace_is : slot_text d None (observation_of s) ++ end_text 0 ≡ trace_text d 0 (ended 0 d (expansion entries) (start_state d)) s
+  trace_is : slot_text d None (observation_of s) ++ end_text until ≡ trace_text d until (ended until d (expansion entries) (start_state d)) s.finished
   trace_is =
-      (λ i. sym one_slot i ++ (if sym still.finished i then finish_text s.moment else end_text 0))
-      ∙ ap (λ slots. trace_text d 0 slots s) (sym ended_there)
+      (λ i. sym one_slot i ++ (if sym still.finished i then finish_text s.moment else end_text until))
+      ∙ ap (λ slots. trace_text d until slots s.finished) (sym ended_there)
 
   -- a run that is cut off behind its entries
-  traced : (part trace : List ℕ) → IsLastPart part → IsFront trace (slot_text d None (observation_of s) ++ end_text 0) → CutOff 0 d (witness_head ++ (entry_lines entries ++ part)) trace
+  traced : (part trace : List ℕ) → IsLastPart part → IsFront trace (slot_text d None (observation_of s) ++ end_text until) → CutOff until d (witness_head ++ (entry_lines entries ++ part)) trace
   traced part trace last front = record {
     entries = entries;
     reached = s;
     execution = execution;
+    written = written;
     witness_is = inr (part, last, refl);
-    trace_is = subst (IsFront trace) trace_is front;
-    ended_only = inr complete;
+    trace_is = inr (inl (complete, subst (IsFront trace) trace_is front));
   }
 
-  pub cut_in_trace : (t u a b c : SinkMeaning) → Gained a b witness_head → Gained b c (entry_lines entries) → GainsPart t u (slot_text d None (observation_of s) ++ end_text 0) → RunsInPart 0 d t u a c
+  pub cut_in_trace : (t u a b c : SinkMeaning) → Gained a b witness_head → Gained b c (entry_lines entries) → GainsPart t u (slot_text d None (observation_of s) ++ end_text until) → RunsInPart until d t u a c
   cut_in_trace t u a b c head lines (n, seen) =
-      (_, _, traced [] (take n (slot_text d None (observation_of s) ++ end_text 0)) no_part (n, refl), gained_then head (gained_then lines gained_nothing), seen)
+      (_, _, traced [] (take n (slot_text d None (observation_of s) ++ end_text until)) no_part (n, refl), gained_then head (gained_then lines gained_nothing), seen)
 
   take_whole : (l : List ℕ) → take (length l) l ≡ l
   take_whole [] = refl
   take_whole (x ∷ xs) = ap (λ (l : List ℕ). x ∷ l) (take_whole xs)
 
-  pub cut_in_end : (t u a b c e : SinkMeaning) → Gained a b witness_head → Gained b c (entry_lines entries) → Gained t u (slot_text d None (observation_of s) ++ end_text 0) → GainsFront c e witness_end → RunsInPart 0 d t u a e
+  pub cut_in_end : (t u a b c e : SinkMeaning) → Gained a b witness_head → Gained b c (entry_lines entries) → Gained t u (slot_text d None (observation_of s) ++ end_text until) → GainsFront c e witness_end → RunsInPart until d t u a e
   cut_in_end t u a b c e head lines seen (n, below, gained) =
-      (_, _, traced (take n witness_end) (slot_text d None (observation_of s) ++ end_text 0) (inr (n, below, refl)) (length (slot_text d None (observation_of s) ++ end_text 0), sym (take_whole (slot_text d None (observation_of s) ++ end_text 0))), gained_then head (gained_then lines gained), seen)
+      (_, _, traced (take n witness_end) (slot_text d None (observation_of s) ++ end_text until) (inr (n, below, refl)) (length (slot_text d None (observation_of s) ++ end_text until), sym (take_whole (slot_text d None (observation_of s) ++ end_text until))), gained_then head (gained_then lines gained), seen)
 
-  pub ran_whole : (t u a b c e : SinkMeaning) → Gained a b witness_head → Gained b c (entry_lines entries) → Gained t u (slot_text d None (observation_of s) ++ end_text 0) → Gained c e witness_end → RunsWhole 0 d t u a e
+  pub ran_whole : (t u a b c e : SinkMeaning) → Gained a b witness_head → Gained b c (entry_lines entries) → Gained t u (slot_text d None (observation_of s) ++ end_text until) → Gained c e witness_end → RunsWhole until d t u a e
   ran_whole t u a b c e head lines seen gained = (
     witness_text entries,
-    slot_text d None (observation_of s) ++ end_text 0,
+    slot_text d None (observation_of s) ++ end_text until,
     record {
       entries = entries;
       end_state = s;
       execution = execution;
       complete = complete;
+      written = written;
       witness_is = refl;
       trace_is = trace_is;
     },
@@ -207,17 +209,17 @@ filed a b c path bytes opened gained = record {
   written = subst (λ (o : Option (List ℕ)). Appends o c.written bytes) opened.written gained.written;
 }
 
-pub ran_design : (d : Design) (path : List ℕ) (t u a b c : SinkMeaning) → Opened a b path → RunsWhole 0 d t u b c → RanDesign d path t u a c
-ran_design d path t u a b c opened (file, seen, witnessed, gained, traced) =
+pub ran_design : (until : ℕ) (d : Design) (path : List ℕ) (t u a b c : SinkMeaning) → Opened a b path → RunsWhole until d t u b c → RanDesign until d path t u a c
+ran_design until d path t u a b c opened (file, seen, witnessed, gained, traced) =
     (file, seen, witnessed, filed a b c path file opened gained, traced)
 
-pub stopped_design : (d : Design) (path : List ℕ) (t u a b c : SinkMeaning) → Opened a b path → RunsInPart 0 d t u b c → StoppedDesign d t u a c
-stopped_design d path t u a b c opened (file, seen, cut, gained, traced) =
+pub stopped_design : (until : ℕ) (d : Design) (path : List ℕ) (t u a b c : SinkMeaning) → Opened a b path → RunsInPart until d t u b c → StoppedDesign until d t u a c
+stopped_design until d path t u a b c opened (file, seen, cut, gained, traced) =
     (file, seen, cut, subst (λ (o : Option (List ℕ)). Appends o c.written file) opened.written gained.written, traced)
 
-pub not_opened : (d : Design) (t a b : SinkMeaning) → b.written ≡ a.written → StoppedDesign d t t a b
-not_opened d t a b kept =
-    ([], [], untraced 0 d [] (start_state d) [] (no_entries 0 d) (inl (refl, (0, omega arith, refl))), subst (λ (o : Option (List ℕ)). Appends a.written o []) (sym kept) (appends_nothing a.written), gained_nothing)
+pub not_opened : (until : ℕ) (d : Design) (t a b : SinkMeaning) → b.written ≡ a.written → StoppedDesign until d t t a b
+not_opened until d t a b kept =
+    ([], [], untraced until d [] (start_state d) [] (no_entries until d) (All-nil IsWritten) (inl (refl, (0, omega arith, refl))), subst (λ (o : Option (List ℕ)). Appends a.written o []) (sym kept) (appends_nothing a.written), gained_nothing)
 
 -- a front of a text is one of a longer text
 front_before : (a b : SinkMeaning) (x y : List ℕ) → GainsFront a b x → GainsFront a b (x ++ y)

@@ -10,5 +10,5 @@ use Rattle.nettype_sim.specs.declared.program.Status.TheVariants.{Done, Usage, N
 -- Done for a text that says something of the module, and NotYet for another; or no memory was found.
 pub record IsAnswered (status : Status) (words : List (List ℕ)) (bytes : List ℕ → Option (List ℕ)) : Type 0 where
   pub usage : NoRunWords words → status ≡ Usage
-  pub done : (file top text : List ℕ) (s : Source) → AreRunWords words file top → bytes file ≡ Some text → Says top text s → (status ≡ Done) ⊎ (status ≡ OutOfMemory)
-  pub not_yet : (file top text : List ℕ) → AreRunWords words file top → bytes file ≡ Some text → ((s : Source) → Says top text s → ⊥) → (status ≡ NotYet) ⊎ (status ≡ OutOfMemory)
+  pub done : (file top text : List ℕ) (until : ℕ) (s : Source) → AreRunWords words file top until → bytes file ≡ Some text → Says top text s → (status ≡ Done) ⊎ (status ≡ OutOfMemory)
+  pub not_yet : (file top text : List ℕ) (until : ℕ) → AreRunWords words file top until → bytes file ≡ Some text → ((s : Source) → Says top text s → ⊥) → (status ≡ NotYet) ⊎ (status ≡ OutOfMemory)

@@ -1,4 +1,4 @@
--- What a call of the program leaves, status by status. The time limit is 0.
+-- What a call of the program leaves, status by status, up to a time limit.
 use Rattle.std.specs.Prelude.{◌⊎◌, ℕ, List, [], ◌++◌, codes, Option, IfSome}
 use Rattle.nt_io.specs.Causes.{Rose}
 use Rattle.nt_io.specs.Sinks.{SinkMeaning, Appends, Gained}
@@ -24,7 +24,7 @@ witness_path top = top ++ codes ".wit"
 
 -- the words are not those of a run
 abbrev pub NoRunWords : List (List ℕ) → Type 0
-NoRunWords words = (file top : List ℕ) → AreRunWords words file top → ⊥
+NoRunWords words = (file top : List ℕ) (until : ℕ) → AreRunWords words file top until → ⊥
 
 -- the file's bytes, where they are told, say nothing of the module
 abbrev pub SaysNothing : Option (List ℕ) → List ℕ → Type 0
@@ -42,24 +42,24 @@ pub record TellsPart (trace trace_now witness witness_now : SinkMeaning) (line :
   pub nothing_else : Untouched witness witness_now
 
 -- a run of this design came to its end: the witness, at this path, and the trace hold the texts of a complete execution
-abbrev pub RanDesign : Design → List ℕ → SinkMeaning → SinkMeaning → SinkMeaning → SinkMeaning → Type 0
-RanDesign d path trace trace_now witness witness_now =
-    (file : List ℕ) × (seen : List ℕ) × Witnessed 0 d file seen × Filed witness witness_now path file × Gained trace trace_now seen
+abbrev pub RanDesign : ℕ → Design → List ℕ → SinkMeaning → SinkMeaning → SinkMeaning → SinkMeaning → Type 0
+RanDesign until d path trace trace_now witness witness_now =
+    (file : List ℕ) × (seen : List ℕ) × Witnessed until d file seen × Filed witness witness_now path file × Gained trace trace_now seen
 
 -- a run of this design was cut off: what the witness and the trace gained are parts of the texts of an execution
-abbrev pub StoppedDesign : Design → SinkMeaning → SinkMeaning → SinkMeaning → SinkMeaning → Type 0
-StoppedDesign d trace trace_now witness witness_now =
-    (file : List ℕ) × (seen : List ℕ) × CutOff 0 d file seen × Appends witness.written witness_now.written file × Gained trace trace_now seen
+abbrev pub StoppedDesign : ℕ → Design → SinkMeaning → SinkMeaning → SinkMeaning → SinkMeaning → Type 0
+StoppedDesign until d trace trace_now witness witness_now =
+    (file : List ℕ) × (seen : List ℕ) × CutOff until d file seen × Appends witness.written witness_now.written file × Gained trace trace_now seen
 
 -- the file's bytes, where they are told, say something of the module, and its design was run to the end
-abbrev pub RanText : Option (List ℕ) → List ℕ → SinkMeaning → SinkMeaning → SinkMeaning → SinkMeaning → Type 0
-RanText told top trace trace_now witness witness_now =
-    IfSome told (λ text. (s : Source) × Says top text s × RanDesign (design_of s) (witness_path top) trace trace_now witness witness_now)
+abbrev pub RanText : ℕ → Option (List ℕ) → List ℕ → SinkMeaning → SinkMeaning → SinkMeaning → SinkMeaning → Type 0
+RanText until told top trace trace_now witness witness_now =
+    IfSome told (λ text. (s : Source) × Says top text s × RanDesign until (design_of s) (witness_path top) trace trace_now witness witness_now)
 
 -- the file's bytes, where they are told, say something of the module, and the run of its design was cut off
-abbrev pub StoppedText : Option (List ℕ) → List ℕ → SinkMeaning → SinkMeaning → SinkMeaning → SinkMeaning → Type 0
-StoppedText told top trace trace_now witness witness_now =
-    IfSome told (λ text. (s : Source) × Says top text s × StoppedDesign (design_of s) trace trace_now witness witness_now)
+abbrev pub StoppedText : ℕ → Option (List ℕ) → List ℕ → SinkMeaning → SinkMeaning → SinkMeaning → SinkMeaning → Type 0
+StoppedText until told top trace trace_now witness witness_now =
+    IfSome told (λ text. (s : Source) × Says top text s × StoppedDesign until (design_of s) trace trace_now witness witness_now)
 
 -- a put to the trace or to the witness failed, or the open of the witness at this path
 abbrev pub WriteFailed : List ℕ → SinkMeaning → SinkMeaning → SinkMeaning → SinkMeaning → Type 0
@@ -69,16 +69,16 @@ WriteFailed path trace trace_now witness witness_now =
     ⊎ Rose (witness.open_faults path) (witness_now.open_faults path))
 
 -- what a run leaves that ended with a write fault: a part of a status line, or of the texts of an execution
-abbrev pub StoppedWriting : Option (List ℕ) → ℕ → ℕ → List ℕ → List ℕ → SinkMeaning → SinkMeaning → SinkMeaning → SinkMeaning → Type 0
-StoppedWriting told faults faults_now file top trace trace_now witness witness_now =
+abbrev pub StoppedWriting : ℕ → Option (List ℕ) → ℕ → ℕ → List ℕ → List ℕ → SinkMeaning → SinkMeaning → SinkMeaning → SinkMeaning → Type 0
+StoppedWriting until told faults faults_now file top trace trace_now witness witness_now =
     (SaysNothing told top × TellsPart trace trace_now witness witness_now not_yet_line)
     ⊎ ((Rose faults faults_now × TellsPart trace trace_now witness witness_now (read_fault_line file))
-    ⊎ (StoppedText told top trace trace_now witness witness_now × WriteFailed (witness_path top) trace trace_now witness witness_now))
+    ⊎ (StoppedText until told top trace trace_now witness witness_now × WriteFailed (witness_path top) trace trace_now witness witness_now))
 
 -- what a run leaves that found no memory: nothing, or a part of the texts of an execution
-abbrev pub StoppedForMemory : Option (List ℕ) → List ℕ → SinkMeaning → SinkMeaning → SinkMeaning → SinkMeaning → Type 0
-StoppedForMemory told top trace trace_now witness witness_now =
-    Tells trace trace_now witness witness_now [] ⊎ StoppedText told top trace trace_now witness witness_now
+abbrev pub StoppedForMemory : ℕ → Option (List ℕ) → List ℕ → SinkMeaning → SinkMeaning → SinkMeaning → SinkMeaning → Type 0
+StoppedForMemory until told top trace trace_now witness witness_now =
+    Tells trace trace_now witness witness_now [] ⊎ StoppedText until told top trace trace_now witness witness_now
 
 -- no count of faults rose
 pub record NoneRose (inputs inputs_now : List ℕ → ℕ) (trace trace_now witness witness_now : SinkMeaning) : Type 0 where

@@ -1,5 +1,5 @@
 -- A run on its way: the entries so far, and what is left in Active.
-use Rattle.std.specs.Prelude.{◌≡◌, ℕ, ◌+◌, ◌<◌, ◌≤◌, ◌^◌, List, length, slice_get, Some, replicate, true}
+use Rattle.std.specs.Prelude.{◌≡◌, ℕ, ◌+◌, ◌<◌, ◌≤◌, ◌^◌, List, length, slice_get, Some, replicate, true, All}
 use Rattle.nt_design.specs.declared.design.Design.{Design}
 use Rattle.nt_design.specs.declared.object.Net.{Net}
 use Rattle.nt_machine.specs.Plain.{IsPlainState}
@@ -7,28 +7,30 @@ use Rattle.nt_semantics.specs.State.{MachineState, count_at}
 use Rattle.nt_semantics.specs.StateFits.{IsStateOf, AtMost}
 use Rattle.nt_semantics.specs.Execution.{Execution, run}
 use Rattle.nt_semantics.specs.Step.{is_order}
+use Rattle.nt_semantics.specs.Texts.{IsWritten}
 use Rattle.nt_semantics.specs.declared.event.Entry.{Entry}
 use Rattle.nt_semantics.specs.declared.event.Event.{Event}
 use Rattle.nt_semantics.specs.declared.event.Event.TheVariants.{Stmt, Assign, Update, Resolve}
 
--- the entries lead from the start to this state, which is one of a design of nets and constants
-pub record LeadsTo (until : ℕ) (d : Design) (entries : List Entry) (s : MachineState) : Type 0 where
-  pub execution : Execution until d entries s
+-- the entries lead from the start to this state, whatever the time limit, and it is one of a design of nets and constants
+pub record LeadsTo (d : Design) (entries : List Entry) (s : MachineState) : Type 0 where
+  pub execution : (until : ℕ) → Execution until d entries s
+  pub written : All IsWritten entries
   pub fits : IsStateOf d s
   pub plain : IsPlainState s
 
 -- the first a assignments have been evaluated, each later one is to be evaluated once, and each net is to be resolved at
 -- least once and at most once more than assignments were evaluated
-pub record Evaluated (until : ℕ) (d : Design) (a : ℕ) (entries : List Entry) (s : MachineState) : Type 0 where
-  pub leads : LeadsTo until d entries s
+pub record Evaluated (d : Design) (a : ℕ) (entries : List Entry) (s : MachineState) : Type 0 where
+  pub leads : LeadsTo d entries s
   pub done : (k : ℕ) → k < a → count_at s.evaluations k ≡ 0
   pub left : (k : ℕ) → a ≤ k → k < length d.assigns → count_at s.evaluations k ≡ 1
   pub once : (n : ℕ) → n < length d.nets → 1 ≤ count_at s.resolutions n
   pub few : (n : ℕ) → count_at s.resolutions n ≤ a + 1
 
 -- all assignments have been evaluated, the first n nets have been resolved, and each later one is to be resolved
-pub record Resolved (until : ℕ) (d : Design) (n : ℕ) (entries : List Entry) (s : MachineState) : Type 0 where
-  pub leads : LeadsTo until d entries s
+pub record Resolved (d : Design) (n : ℕ) (entries : List Entry) (s : MachineState) : Type 0 where
+  pub leads : LeadsTo d entries s
   pub evaluated : (k : ℕ) → count_at s.evaluations k ≡ 0
   pub done : (k : ℕ) → k < n → count_at s.resolutions k ≡ 0
   pub left : (k : ℕ) → n ≤ k → k < length d.nets → 1 ≤ count_at s.resolutions k
@@ -43,8 +45,8 @@ CanResolve d n (Resolve m order) =
     (m ≡ n) × (net : Net) × (slice_get d.nets n ≡ Some net) × (is_order (length net.slots) order ≡ true)
 
 -- the net was resolved so often by the event
-pub record ResolvedTimes (until : ℕ) (d : Design) (n : ℕ) (event : Event) (count : ℕ) (old new : MachineState) : Type 0 where
-  pub runs : run until d (replicate count event) old ≡ Some new
+pub record ResolvedTimes (d : Design) (n : ℕ) (event : Event) (count : ℕ) (old new : MachineState) : Type 0 where
+  pub runs : (until : ℕ) → run until d (replicate count event) old ≡ Some new
   pub fits : IsStateOf d new
   pub plain : IsPlainState new
   pub evaluations : new.evaluations ≡ old.evaluations

@@ -1,5 +1,5 @@
 -- The words of a run.
-use Rattle.std.specs.Prelude.{◌≡◌, ◌≢◌, ℕ, ◌≤◌, List, [], ◌∷◌, length, codes, All, map, String, string_bytes, slice_index_or, slice_index}
+use Rattle.std.specs.Prelude.{◌≡◌, ◌≢◌, ℕ, ◌≤◌, List, [], ◌∷◌, length, codes, decimal, All, map, String, string_bytes, slice_index_or, slice_index}
 use Rattle.std.specs.declared.alloc.Global.{Global}
 use Rattle.nt_small.specs.Grammar.{IsName}
 
@@ -11,10 +11,14 @@ IsPrintable b = (32 ≤ b) × (b ≢ 127)
 abbrev pub IsFileWord : List ℕ → Type 0
 IsFileWord word = (1 ≤ length word) × (slice_index word 0 ≢ 45) × All IsPrintable word
 
--- run FILE --top NAME --until 0 --workers 1
-abbrev pub AreRunWords : List (List ℕ) → List ℕ → List ℕ → Type 0
-AreRunWords words file top =
-    (words ≡ codes "run" ∷ file ∷ codes "--top" ∷ top ∷ codes "--until" ∷ codes "0" ∷ codes "--workers" ∷ codes "1" ∷ []) × IsFileWord file × IsName top
+-- the one time limit that is taken today
+abbrev pub IsLimit : ℕ → Type 0
+IsLimit until = until ≡ 0
+
+-- run FILE --top NAME --until T --workers 1
+abbrev pub AreRunWords : List (List ℕ) → List ℕ → List ℕ → ℕ → Type 0
+AreRunWords words file top until =
+    (words ≡ codes "run" ∷ file ∷ codes "--top" ∷ top ∷ codes "--until" ∷ decimal until ∷ codes "--workers" ∷ codes "1" ∷ []) × IsFileWord file × IsName top × IsLimit until
 
 abbrev pub texts_of : List (String Global) → List (List ℕ)
 texts_of words = map string_bytes words

@@ -6,11 +6,12 @@ ghost use Rattle.nettype_sim.specs.Words.{AreRunWords, IsFileWord, IsPrintable, 
 
 use nt_small::is_name;
 
-/// run FILE --top NAME --until 0 --workers 1
+/// run FILE --top NAME --until T --workers 1
 #[derive(Clone, Copy)]
 pub struct Command<'a> {
     pub file: &'a str,
     pub top: &'a str,
+    pub until: u64,
 }
 
 fn same(a: &[u8], b: &[u8]) -> bool
@@ -52,9 +53,10 @@ fn has_run_form(words: &[String]) -> bool
 }
 
 /// The command that the words give, if they are in its grammar.
+#[tactic(auto, using(crate::proofs::Commands::form_of))]
 pub fn command_of(words: &[String]) -> Option<Command<'_>>
-    ensures found { IfSome result (λ c. AreRunWords (texts_of words.now) c.file.now c.top.now) }
-    ensures none { IfNone result ((file top : List ℕ) → AreRunWords (texts_of words.now) file top → ⊥) }
+    ensures found { IfSome result (λ c. AreRunWords (texts_of words.now) c.file.now c.top.now c.until) }
+    ensures none { IfNone result ((file top : List ℕ) (until : ℕ) → AreRunWords (texts_of words.now) file top until → ⊥) }
 {
     if words.len() != 8 {
         return None;
@@ -64,5 +66,7 @@ pub fn command_of(words: &[String]) -> Option<Command<'_>>
     if !has_run_form(words) || !is_file_word(file) || !is_name(top.as_bytes()) {
         return None;
     }
-    Some(Command { file, top })
+    // The one time limit that is taken today.
+    let until = 0;
+    Some(Command { file, top, until })
 }

@@ -64,17 +64,18 @@ fn run_named<O: Sink, W: Sink>(
     alloc: Global,
     design: &Design,
     top: &str,
+    until: u64,
     trace: &mut O,
     witness: &mut W,
 ) -> Result<(), Stop>
     requires design { IsDesign design.now }
     requires plain { IsPlain design.now }
-    ensures whole { OnOk result (RanDesign design.now (witness_path top.now) (O.meaning trace.old) (O.meaning trace.new) (W.meaning witness.old) (W.meaning witness.new)) }
-    ensures part { IfErr result (λ _. StoppedDesign design.now (O.meaning trace.old) (O.meaning trace.new) (W.meaning witness.old) (W.meaning witness.new)) }
+    ensures whole { OnOk result (RanDesign until design.now (witness_path top.now) (O.meaning trace.old) (O.meaning trace.new) (W.meaning witness.old) (W.meaning witness.new)) }
+    ensures part { IfErr result (λ _. StoppedDesign until design.now (O.meaning trace.old) (O.meaning trace.new) (W.meaning witness.old) (W.meaning witness.new)) }
     ensures cause { result ≡ Err Stop.Write → WriteFailed (witness_path top.now) (O.meaning trace.old) (O.meaning trace.new) (W.meaning witness.old) (W.meaning witness.new) }
 {
     let path = path_of_witness(alloc, top)?;
-    run_design(alloc, design, path.as_str(), trace, witness)?;
+    run_design(alloc, design, until, path.as_str(), trace, witness)?;
     Ok(())
 }
 
@@ -83,20 +84,21 @@ fn run_text<O: Sink, W: Sink>(
     alloc: Global,
     text: &[u8],
     top: &str,
+    until: u64,
     trace: &mut O,
     witness: &mut W,
 ) -> Status
     ensures done { result ≡ Status.Done
-        → (s : Source) × Says top.now text.now s × RanDesign (design_of s) (witness_path top.now) (O.meaning trace.old) (O.meaning trace.new) (W.meaning witness.old) (W.meaning witness.new) }
+        → (s : Source) × Says top.now text.now s × RanDesign until (design_of s) (witness_path top.now) (O.meaning trace.old) (O.meaning trace.new) (W.meaning witness.old) (W.meaning witness.new) }
     ensures not_yet { result ≡ Status.NotYet
         → ((s : Source) → Says top.now text.now s → ⊥) × Tells (O.meaning trace.old) (O.meaning trace.new) (W.meaning witness.old) (W.meaning witness.new) not_yet_line }
     ensures write_fault { result ≡ Status.WriteFault
         → (((s : Source) → Says top.now text.now s → ⊥) × TellsPart (O.meaning trace.old) (O.meaning trace.new) (W.meaning witness.old) (W.meaning witness.new) not_yet_line)
-        ⊎ (((s : Source) × Says top.now text.now s × StoppedDesign (design_of s) (O.meaning trace.old) (O.meaning trace.new) (W.meaning witness.old) (W.meaning witness.new))
+        ⊎ (((s : Source) × Says top.now text.now s × StoppedDesign until (design_of s) (O.meaning trace.old) (O.meaning trace.new) (W.meaning witness.old) (W.meaning witness.new))
         × WriteFailed (witness_path top.now) (O.meaning trace.old) (O.meaning trace.new) (W.meaning witness.old) (W.meaning witness.new)) }
     ensures memory { result ≡ Status.OutOfMemory
         → Tells (O.meaning trace.old) (O.meaning trace.new) (W.meaning witness.old) (W.meaning witness.new) []
-        ⊎ ((s : Source) × Says top.now text.now s × StoppedDesign (design_of s) (O.meaning trace.old) (O.meaning trace.new) (W.meaning witness.old) (W.meaning witness.new)) }
+        ⊎ ((s : Source) × Says top.now text.now s × StoppedDesign until (design_of s) (O.meaning trace.old) (O.meaning trace.new) (W.meaning witness.old) (W.meaning witness.new)) }
     ensures others { (result ≢ Status.Usage) × (result ≢ Status.ReadFault) }
 {
     let design = match design_from_text(alloc, text, top.as_bytes()) {
@@ -104,7 +106,7 @@ fn run_text<O: Sink, W: Sink>(
         Ok(None) => return tell(trace, b"not yet\n", Status::NotYet),
         Err(_) => return Status::OutOfMemory,
     };
-    match run_named(alloc, &design, top, trace, witness) {
+    match run_named(alloc, &design, top, until, trace, witness) {
         Ok(()) => Status::Done,
         Err(Stop::Write) => Status::WriteFault,
         Err(Stop::Memory) => Status::OutOfMemory,
@@ -145,7 +147,7 @@ fn run_file<I: Inputs, O: Sink, W: Sink>(
     witness: &mut W,
 ) -> Status
     ensures done { result ≡ Status.Done
-        → RanText (I.bytes inputs.old command.now.file.now) command.now.top.now (O.meaning trace.old) (O.meaning trace.new) (W.meaning witness.old) (W.meaning witness.new) }
+        → RanText command.now.until (I.bytes inputs.old command.now.file.now) command.now.top.now (O.meaning trace.old) (O.meaning trace.new) (W.meaning witness.old) (W.meaning witness.new) }
     ensures not_yet { result ≡ Status.NotYet
         → SaysNothing (I.bytes inputs.old command.now.file.now) command.now.top.now
         × Tells (O.meaning trace.old) (O.meaning trace.new) (W.meaning witness.old) (W.meaning witness.new) not_yet_line }
@@ -153,22 +155,22 @@ fn run_file<I: Inputs, O: Sink, W: Sink>(
         → Rose (I.faults inputs.old command.now.file.now) (I.faults inputs.new command.now.file.now)
         × Tells (O.meaning trace.old) (O.meaning trace.new) (W.meaning witness.old) (W.meaning witness.new) (read_fault_line command.now.file.now) }
     ensures write_fault { result ≡ Status.WriteFault
-        → StoppedWriting (I.bytes inputs.old command.now.file.now) (I.faults inputs.old command.now.file.now) (I.faults inputs.new command.now.file.now) command.now.file.now command.now.top.now
+        → StoppedWriting command.now.until (I.bytes inputs.old command.now.file.now) (I.faults inputs.old command.now.file.now) (I.faults inputs.new command.now.file.now) command.now.file.now command.now.top.now
         (O.meaning trace.old) (O.meaning trace.new) (W.meaning witness.old) (W.meaning witness.new) }
     ensures memory { result ≡ Status.OutOfMemory
-        → StoppedForMemory (I.bytes inputs.old command.now.file.now) command.now.top.now (O.meaning trace.old) (O.meaning trace.new) (W.meaning witness.old) (W.meaning witness.new) }
+        → StoppedForMemory command.now.until (I.bytes inputs.old command.now.file.now) command.now.top.now (O.meaning trace.old) (O.meaning trace.new) (W.meaning witness.old) (W.meaning witness.new) }
     ensures others { result ≢ Status.Usage }
 {
     match read_all(alloc, inputs, command.file, MOST_BYTES) {
-        Ok(bytes) => run_text(alloc, &bytes, command.top, trace, witness),
+        Ok(bytes) => run_text(alloc, &bytes, command.top, command.until, trace, witness),
         Err(ReadError::TooLong) => tell(trace, b"not yet\n", Status::NotYet),
         Err(ReadError::Fault) => tell_read_fault(trace, command.file),
         Err(ReadError::OutOfMemory(_)) => Status::OutOfMemory,
     }
 }
 
-/// Does all that the program does: it takes the words after the program's name, runs time slot 0 of the module that they
-/// name, writes what is seen to the trace and the events to the witness, and answers how it ended.
+/// Does all that the program does: it takes the words after the program's name, runs the module that they name up to their
+/// time limit, writes what is seen to the trace and the events to the witness, and answers how it ended.
 pub fn simulate<R: Threads + Sync, I: Inputs, O: Sink, W: Sink>(
     _rt: &R,
     alloc: Global,
@@ -179,26 +181,26 @@ pub fn simulate<R: Threads + Sync, I: Inputs, O: Sink, W: Sink>(
 ) -> Status
     // The events in the witness are, each once, one execution that clause 4 allows, complete to the time limit, and the
     // trace is that execution's.
-    ensures done { result ≡ Status.Done → (file top : List ℕ) → AreRunWords (texts_of words.now) file top
-        → RanText (I.bytes inputs.old file) top (O.meaning trace.old) (O.meaning trace.new) (W.meaning witness.old) (W.meaning witness.new) }
+    ensures done { result ≡ Status.Done → (file top : List ℕ) (until : ℕ) → AreRunWords (texts_of words.now) file top until
+        → RanText until (I.bytes inputs.old file) top (O.meaning trace.old) (O.meaning trace.new) (W.meaning witness.old) (W.meaning witness.new) }
     // Usage comes only where the words are not those of a run, and every other answer but a failed write where they are.
     ensures usage { result ≡ Status.Usage → NoRunWords (texts_of words.now)
         × Tells (O.meaning trace.old) (O.meaning trace.new) (W.meaning witness.old) (W.meaning witness.new) usage_line }
-    ensures words { (result ≢ Status.Usage) → (result ≢ Status.WriteFault) → (file : List ℕ) × (top : List ℕ) × AreRunWords (texts_of words.now) file top }
-    ensures not_yet { result ≡ Status.NotYet → (file top : List ℕ) → AreRunWords (texts_of words.now) file top
+    ensures words { (result ≢ Status.Usage) → (result ≢ Status.WriteFault) → (file : List ℕ) × (top : List ℕ) × (until : ℕ) × AreRunWords (texts_of words.now) file top until }
+    ensures not_yet { result ≡ Status.NotYet → (file top : List ℕ) (until : ℕ) → AreRunWords (texts_of words.now) file top until
         → SaysNothing (I.bytes inputs.old file) top
         × Tells (O.meaning trace.old) (O.meaning trace.new) (W.meaning witness.old) (W.meaning witness.new) not_yet_line }
-    ensures read_fault { result ≡ Status.ReadFault → (file top : List ℕ) → AreRunWords (texts_of words.now) file top
+    ensures read_fault { result ≡ Status.ReadFault → (file top : List ℕ) (until : ℕ) → AreRunWords (texts_of words.now) file top until
         → Rose (I.faults inputs.old file) (I.faults inputs.new file)
         × Tells (O.meaning trace.old) (O.meaning trace.new) (W.meaning witness.old) (W.meaning witness.new) (read_fault_line file) }
     ensures write_fault { result ≡ Status.WriteFault
         → (NoRunWords (texts_of words.now)
         × TellsPart (O.meaning trace.old) (O.meaning trace.new) (W.meaning witness.old) (W.meaning witness.new) usage_line)
-        ⊎ ((file : List ℕ) × (top : List ℕ) × AreRunWords (texts_of words.now) file top
-        × StoppedWriting (I.bytes inputs.old file) (I.faults inputs.old file) (I.faults inputs.new file) file top
+        ⊎ ((file : List ℕ) × (top : List ℕ) × (until : ℕ) × AreRunWords (texts_of words.now) file top until
+        × StoppedWriting until (I.bytes inputs.old file) (I.faults inputs.old file) (I.faults inputs.new file) file top
         (O.meaning trace.old) (O.meaning trace.new) (W.meaning witness.old) (W.meaning witness.new)) }
-    ensures memory { result ≡ Status.OutOfMemory → (file top : List ℕ) → AreRunWords (texts_of words.now) file top
-        → StoppedForMemory (I.bytes inputs.old file) top (O.meaning trace.old) (O.meaning trace.new) (W.meaning witness.old) (W.meaning witness.new) }
+    ensures memory { result ≡ Status.OutOfMemory → (file top : List ℕ) (until : ℕ) → AreRunWords (texts_of words.now) file top until
+        → StoppedForMemory until (I.bytes inputs.old file) top (O.meaning trace.old) (O.meaning trace.new) (W.meaning witness.old) (W.meaning witness.new) }
     // Nothing else makes it give up.
     ensures complete { NoneRose (I.faults inputs.old) (I.faults inputs.new) (O.meaning trace.old) (O.meaning trace.new) (W.meaning witness.old) (W.meaning witness.new)
         → IsAnswered result (texts_of words.now) (I.bytes inputs.old) }

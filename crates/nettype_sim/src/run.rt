@@ -104,6 +104,7 @@ fn write_entries<W: Sink>(
 fn write_trace<O: Sink>(
     alloc: Global,
     design: &Design,
+    until: u64,
     state: &State,
     trace: &mut O,
 ) -> Result<(), Stop>
@@ -111,12 +112,12 @@ fn write_trace<O: Sink>(
     requires plain_design { IsPlain design.now }
     requires state { IsStateOf design.now state.now }
     requires plain { IsPlainState state.now }
-    ensures all { OnOk result (Gained (O.meaning trace.old) (O.meaning trace.new) (slot_text design.now None (observation_of state.now) ++ end_text 0)) }
-    ensures part { IfErr result (λ _. GainsPart (O.meaning trace.old) (O.meaning trace.new) (slot_text design.now None (observation_of state.now) ++ end_text 0)) }
+    ensures all { OnOk result (Gained (O.meaning trace.old) (O.meaning trace.new) (slot_text design.now None (observation_of state.now) ++ end_text until)) }
+    ensures part { IfErr result (λ _. GainsPart (O.meaning trace.old) (O.meaning trace.new) (slot_text design.now None (observation_of state.now) ++ end_text until)) }
     ensures cause { result ≡ Err Stop.Write → Rose (O.meaning trace.old).faults (O.meaning trace.new).faults }
 {
     let slot = text_of_slot(alloc, design, state)?;
-    let end = text_of_end(alloc, 0)?;
+    let end = text_of_end(alloc, until)?;
     put(trace, slot.items())?;
     put(trace, end.items())?;
     Ok(())
@@ -126,20 +127,21 @@ fn write_trace<O: Sink>(
 fn write_run<O: Sink, W: Sink>(
     alloc: Global,
     design: &Design,
+    until: u64,
     trace: &mut O,
     witness: &mut W,
 ) -> Result<(), Stop>
     requires design { IsDesign design.now }
     requires plain_design { IsPlain design.now }
-    ensures whole { OnOk result (RunsWhole 0 design.now (O.meaning trace.old) (O.meaning trace.new) (W.meaning witness.old) (W.meaning witness.new)) }
-    ensures part { IfErr result (λ _. RunsInPart 0 design.now (O.meaning trace.old) (O.meaning trace.new) (W.meaning witness.old) (W.meaning witness.new)) }
+    ensures whole { OnOk result (RunsWhole until design.now (O.meaning trace.old) (O.meaning trace.new) (W.meaning witness.old) (W.meaning witness.new)) }
+    ensures part { IfErr result (λ _. RunsInPart until design.now (O.meaning trace.old) (O.meaning trace.new) (W.meaning witness.old) (W.meaning witness.new)) }
     ensures cause { result ≡ Err Stop.Write → Rose (O.meaning trace.old).faults (O.meaning trace.new).faults
         ⊎ Rose (W.meaning witness.old).faults (W.meaning witness.new).faults }
 {
     put(witness, b"nettype-witness 1\n")?;
     let (entries, state) = run_slot(alloc, design)?;
     write_entries(alloc, &entries, witness)?;
-    write_trace(alloc, design, &state, trace)?;
+    write_trace(alloc, design, until, &state, trace)?;
     put(witness, b"end\n")?;
     Ok(())
 }
@@ -156,7 +158,7 @@ fn open_witness<W: Sink>(witness: &mut W, path: &str) -> Result<(), Stop>
     }
 }
 
-/// Runs a design through time slot 0. The witness is opened at this path and gets the events, the trace gets the values.
+/// Runs a design up to a time limit, which is time slot 0 alone. The witness is opened at this path and gets the events, the trace gets the values.
 ///
 /// # Errors
 ///
@@ -165,17 +167,18 @@ fn open_witness<W: Sink>(witness: &mut W, path: &str) -> Result<(), Stop>
 pub fn run_design<O: Sink, W: Sink>(
     alloc: Global,
     design: &Design,
+    until: u64,
     path: &str,
     trace: &mut O,
     witness: &mut W,
 ) -> Result<(), Stop>
     requires design { IsDesign design.now }
     requires plain_design { IsPlain design.now }
-    ensures whole { OnOk result (RanDesign design.now path.now (O.meaning trace.old) (O.meaning trace.new) (W.meaning witness.old) (W.meaning witness.new)) }
-    ensures part { IfErr result (λ _. StoppedDesign design.now (O.meaning trace.old) (O.meaning trace.new) (W.meaning witness.old) (W.meaning witness.new)) }
+    ensures whole { OnOk result (RanDesign until design.now path.now (O.meaning trace.old) (O.meaning trace.new) (W.meaning witness.old) (W.meaning witness.new)) }
+    ensures part { IfErr result (λ _. StoppedDesign until design.now (O.meaning trace.old) (O.meaning trace.new) (W.meaning witness.old) (W.meaning witness.new)) }
     ensures cause { result ≡ Err Stop.Write → WriteFailed path.now (O.meaning trace.old) (O.meaning trace.new) (W.meaning witness.old) (W.meaning witness.new) }
 {
     open_witness(witness, path)?;
-    write_run(alloc, design, trace, witness)?;
+    write_run(alloc, design, until, trace, witness)?;
     Ok(())
 }

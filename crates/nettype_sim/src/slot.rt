@@ -1,5 +1,5 @@
 // The run of time slot 0: each assignment is evaluated, and then each net resolved.
-ghost use Rattle.std.specs.Prelude.{◌≡◌, ◌+◌, ◌≤◌, ◌<◌, ◌^◌, length, slice_get, Some, OnOk, IfOk};
+ghost use Rattle.std.specs.Prelude.{◌≡◌, ◌+◌, ◌≤◌, ◌<◌, ◌^◌, length, slice_get, Some, OnOk, IfOk, ℕ, All};
 ghost use Rattle.std.specs.List.{range_with_len};
 ghost use Rattle.nt_design.specs.Plain.{IsPlain};
 ghost use Rattle.nt_design.specs.WellFormed.{IsDesign};
@@ -7,6 +7,7 @@ ghost use Rattle.nt_machine.specs.Plain.{IsPlainState};
 ghost use Rattle.nt_semantics.specs.State.{count_at};
 ghost use Rattle.nt_semantics.specs.StateFits.{IsStateOf, AtMost};
 ghost use Rattle.nt_semantics.specs.Execution.{Execution, IsComplete};
+ghost use Rattle.nt_semantics.specs.Texts.{IsWritten};
 ghost use Rattle.nettype_sim.specs.Progress.{Evaluated, Resolved, CanResolve, ResolvedTimes};
 
 use nt_design::{Design, Net};
@@ -26,8 +27,8 @@ fn evaluate_one(
     requires design { IsDesign design.now }
     requires plain_design { IsPlain design.now }
     requires within { assign < length design.now.assigns }
-    requires so_far { Evaluated 0 design.now assign entries.old state.old }
-    ensures { OnOk result (Evaluated 0 design.now (assign + 1) entries.new state.new) }
+    requires so_far { Evaluated design.now assign entries.old state.old }
+    ensures { OnOk result (Evaluated design.now (assign + 1) entries.new state.new) }
 {
     let event = Event::Assign { assign };
     apply(alloc, design, state, &event)?;
@@ -43,8 +44,8 @@ fn evaluate_all(
 ) -> Result<(), AllocError>
     requires design { IsDesign design.now }
     requires plain_design { IsPlain design.now }
-    requires so_far { Evaluated 0 design.now 0 entries.old state.old }
-    ensures { OnOk result (Evaluated 0 design.now (length design.now.assigns) entries.new state.new) }
+    requires so_far { Evaluated design.now 0 entries.old state.old }
+    ensures { OnOk result (Evaluated design.now (length design.now.assigns) entries.new state.new) }
 {
     let count = design.assigns.len() as u32;
     for assign in 0..count {
@@ -70,7 +71,7 @@ fn resolve_times(
     requires event { CanResolve design.now net event.now }
     requires within { net < length design.now.nets }
     requires count { count_at state.old.resolutions net ≡ count }
-    ensures { OnOk result (ResolvedTimes 0 design.now net event.now count state.old state.new) }
+    ensures { OnOk result (ResolvedTimes design.now net event.now count state.old state.new) }
 {
     for turn in 0..count {
         apply(alloc, design, state, event)?;
@@ -127,8 +128,8 @@ fn resolve_one(
     requires design { IsDesign design.now }
     requires plain_design { IsPlain design.now }
     requires within { net < length design.now.nets }
-    requires so_far { Resolved 0 design.now net entries.old state.old }
-    ensures { OnOk result (Resolved 0 design.now (net + 1) entries.new state.new) }
+    requires so_far { Resolved design.now net entries.old state.old }
+    ensures { OnOk result (Resolved design.now (net + 1) entries.new state.new) }
 {
     let event = resolution_of(alloc, design, net)?;
     let count = pending_resolutions(design, state, &event, net);
@@ -145,8 +146,8 @@ fn resolve_all(
 ) -> Result<(), AllocError>
     requires design { IsDesign design.now }
     requires plain_design { IsPlain design.now }
-    requires so_far { Resolved 0 design.now 0 entries.old state.old }
-    ensures { OnOk result (Resolved 0 design.now (length design.now.nets) entries.new state.new) }
+    requires so_far { Resolved design.now 0 entries.old state.old }
+    ensures { OnOk result (Resolved design.now (length design.now.nets) entries.new state.new) }
 {
     let count = design.nets.len() as u32;
     for net in 0..count {
@@ -156,7 +157,7 @@ fn resolve_all(
 }
 
 /// Runs a design through time slot 0, in the order of its declarations. It answers the entries, and the state at the
-/// slot's end, in which nothing is left.
+/// slot's end, in which nothing is left, whatever the time limit.
 ///
 /// # Errors
 ///
@@ -164,8 +165,9 @@ fn resolve_all(
 pub fn run_slot(alloc: Global, design: &Design) -> Result<(Items<Entry>, State), AllocError>
     requires design { IsDesign design.now }
     requires plain_design { IsPlain design.now }
-    ensures execution { IfOk result (λ r. Execution 0 design.now r.0 r.1) }
-    ensures complete { IfOk result (λ r. IsComplete 0 r.1) }
+    ensures execution { IfOk result (λ r. (until : ℕ) → Execution until design.now r.0 r.1) }
+    ensures complete { IfOk result (λ r. (until : ℕ) → IsComplete until r.1) }
+    ensures written { IfOk result (λ r. All IsWritten r.0) }
     ensures state { IfOk result (λ r. IsStateOf design.now r.1) }
     ensures plain { IfOk result (λ r. IsPlainState r.1) }
 {

@@ -5,7 +5,7 @@ use Rattle.nt_design.specs.declared.design.Design.{Design}
 use Rattle.nt_design.specs.Plain.{IsPlain}
 use Rattle.nt_machine.specs.Plain.{IsPlainState}
 use Rattle.nt_semantics.specs.Same.{is_same}
-use Rattle.nt_semantics.specs.State.{MachineState, start_state, place_at, value_at, count_at, more, fewer}
+use Rattle.nt_semantics.specs.State.{MachineState, start_state, standing_at, value_at, count_at, more, fewer}
 use Rattle.nt_semantics.specs.StateFits.{AtMost}
 use Rattle.nt_semantics.specs.Step.{step, is_pending_at}
 use Rattle.nt_semantics.specs.declared.event.Event.{Event}
@@ -39,14 +39,14 @@ one_or_none false = omega arith
 -- a bound on evaluations and resolutions is one on all events, where no other is in Active
 pub at_most_counts : (most : ℕ) (s : MachineState) → 1 ≤ most → IsPlainState s → ((a : ℕ) → count_at s.evaluations a ≤ most) → ((n : ℕ) → count_at s.resolutions n ≤ most) → AtMost most s
 at_most_counts most s one still evaluations resolutions (Stmt p) =
-    omega (arith, one, one_or_none (is_pending_at s (place_at s p)))
+    omega (arith, one, one_or_none (is_pending_at s (standing_at s p)))
 at_most_counts most s one still evaluations resolutions (AssignEvent a) = evaluations a
 at_most_counts most s one still evaluations resolutions Update = let e = ap length still.moved in omega (arith, e)
 at_most_counts most s one still evaluations resolutions (Resolve n order) = resolutions n
 
 -- each event is there once at the start
 pub start_at_most : (d : Design) → AtMost 1 (start_state d)
-start_at_most d (Stmt p) = one_or_none (is_pending_at (start_state d) (place_at (start_state d) p))
+start_at_most d (Stmt p) = one_or_none (is_pending_at (start_state d) (standing_at (start_state d) p))
 start_at_most d (AssignEvent a) = ones (length d.assigns) a
 start_at_most d Update = omega arith
 start_at_most d (Resolve n order) = ones (length d.nets) n

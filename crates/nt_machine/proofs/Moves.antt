@@ -19,7 +19,7 @@ if_same false x = refl
 
 pub no_move : (until : ℕ) (s : MachineState) → IsPlainState s → move until s ≡ None
 no_move until s still =
-    ap (λ p. if list_any is_inactive p then Some (activate s) else (if is_some_put s.nonblocking then Some (move_updates s) else (if s.finished then None else begin_next until s (next_moment p)))) still.places
+    ap (λ p. if list_any is_inactive p then Some (activate s) else (if is_some_put s.nonblocking then Some (move_updates s) else (if s.finished then None else begin_next until s (next_moment p)))) still.standings
     ∙ ap (λ puts. if is_some_put puts then Some (move_updates s) else (if s.finished then None else begin_next until s None)) still.nonblocking
     ∙ ap (λ b. if b then None else begin_next until s None) still.finished
 
@@ -56,11 +56,11 @@ unfolding is_active
 acts d s t (Stmt p) still h = absurd (none-some t (sym (no_statement d s p still) ∙ h))
 acts d s t (AssignEvent a) still h =
     let x = evaluates d s a (ap (λ (o : Option MachineState). is_some o) h) in
-    or_right (list_any (is_pending_at s) s.places) _ (or_left (list_any (nat_lt 0) s.evaluations) _ (any_count s.evaluations a x.active))
+    or_right (list_any (is_pending_at s) s.standings) _ (or_left (list_any (nat_lt 0) s.evaluations) _ (any_count s.evaluations a x.active))
 acts d s t Update still h = absurd (none-some t (sym (no_update d s still) ∙ h))
 acts d s t (Resolve n order) still h =
     let x = resolves d s n order (ap (λ (o : Option MachineState). is_some o) h) in
-    or_right (list_any (is_pending_at s) s.places) _ (or_right (list_any (nat_lt 0) s.evaluations) _ (or_left (list_any (nat_lt 0) s.resolutions) _ (any_count s.resolutions n x.active)))
+    or_right (list_any (is_pending_at s) s.standings) _ (or_right (list_any (nat_lt 0) s.evaluations) _ (or_left (list_any (nat_lt 0) s.resolutions) _ (any_count s.resolutions n x.active)))
 
 -- an active slot has not ended
 unseen : (s : MachineState) → is_active s ≡ true → seen s ≡ []

@@ -10,7 +10,8 @@ use Rattle.nt_design.specs.declared.process.Assign.{Assign}
 use Rattle.nt_design.specs.declared.process.Proc.{Proc}
 use Rattle.nt_design.specs.declared.target.Target.{Target}
 use Rattle.nt_design.specs.declared.target.Target.TheVariants as target
-use Rattle.nt_semantics.specs.State.{Unbegun, Ready, is_comb, start_items, start_state, start_nets, slot_start, net_start, net_shape, value_at}
+use Rattle.nt_semantics.specs.State.{is_comb, start_work, start_state, start_nets, slot_start, net_start, net_shape, value_at}
+use Rattle.nt_semantics.specs.declared.standing.Standing.TheVariants.{Unbegun, Ready}
 use Rattle.nt_design.specs.Plain.{IsPlain, IsConstantDriver, IsWholeSlot, net_of}
 use Rattle.nt_machine.specs.Plain.{IsPlainState}
 
@@ -50,8 +51,8 @@ slots_start d plain = default_slots d d.assigns plain plain.assigns
 -- nothing else is there
 pub start_still : (d : Design) → IsPlain d → IsPlainState (start_state d)
 start_still d plain = record {
-  places = ap (λ procs. map (λ (p : Proc). if is_comb p.kind then Unbegun else Ready) procs) plain.procs;
-  items = ap (λ procs. map (λ (p : Proc). start_items p.kind p) procs) plain.procs;
+  standings = ap (λ procs. map (λ (p : Proc). if is_comb p.kind then Unbegun else Ready) procs) plain.procs;
+  work = ap (λ procs. map (λ (p : Proc). start_work p.kind p) procs) plain.procs;
   nonblocking = refl;
   moved = refl;
   shown = refl;
@@ -59,15 +60,15 @@ start_still d plain = record {
 }
 
 -- the start state in columns
-pub start_is : (d : Design) → IsPlain d → (vars nets slots : List Value) (evaluations resolutions : List ℕ) → vars ≡ [] → nets ≡ map (λ (net : Net). default_value net.shape) d.nets → slots ≡ map (λ (assign : Assign). default_value (net_shape d (net_of assign.target))) d.assigns → evaluations ≡ replicate (length d.assigns) 1 → resolutions ≡ replicate (length d.nets) 1 → record { moment = 0; vars = vars; nets = nets; slots = slots; places = []; items = []; locals = []; fresh = []; evaluations = evaluations; resolutions = resolutions; nonblocking = []; moved = []; shown = []; finished = false } ≡ start_state d
+pub start_is : (d : Design) → IsPlain d → (vars nets slots : List Value) (evaluations resolutions : List ℕ) → vars ≡ [] → nets ≡ map (λ (net : Net). default_value net.shape) d.nets → slots ≡ map (λ (assign : Assign). default_value (net_shape d (net_of assign.target))) d.assigns → evaluations ≡ replicate (length d.assigns) 1 → resolutions ≡ replicate (length d.nets) 1 → record { moment = 0; vars = vars; nets = nets; slots = slots; standings = []; work = []; locals = []; fresh = []; evaluations = evaluations; resolutions = resolutions; nonblocking = []; moved = []; shown = []; finished = false } ≡ start_state d
 start_is d plain vars nets slots evaluations resolutions no_vars nets_are slots_are evaluations_are resolutions_are =
     λ i. record {
       moment = 0;
       vars = vars_are i;
       nets = (nets_are ∙ sym (nets_start d plain)) i;
       slots = (slots_are ∙ sym (slots_start d plain)) i;
-      places = places_are i;
-      items = items_are i;
+      standings = places_are i;
+      work = items_are i;
       locals = locals_are i;
       fresh = fresh_are i;
       evaluations = evaluations_are i;
@@ -81,11 +82,11 @@ start_is d plain vars nets slots evaluations resolutions no_vars nets_are slots_
     vars_are : vars ≡ (start_state d).vars
     vars_are = no_vars ∙ sym (ap (λ xs. map (λ (var : Var). var.start) xs) plain.vars)
 
-    places_are : [] ≡ (start_state d).places
+    places_are : [] ≡ (start_state d).standings
     places_are = sym (ap (λ procs. map (λ (p : Proc). if is_comb p.kind then Unbegun else Ready) procs) plain.procs)
 
-    items_are : [] ≡ (start_state d).items
-    items_are = sym (ap (λ procs. map (λ (p : Proc). start_items p.kind p) procs) plain.procs)
+    items_are : [] ≡ (start_state d).work
+    items_are = sym (ap (λ procs. map (λ (p : Proc). start_work p.kind p) procs) plain.procs)
 
     locals_are : [] ≡ (start_state d).locals
     locals_are = sym (ap (λ procs. map (λ (p : Proc). map default_value p.locals) procs) plain.procs)

@@ -28,11 +28,12 @@ use Rattle.nt_design.proofs.Constants.{const_back}
 use Rattle.nt_design.proofs.Does.{value_set}
 use Rattle.nt_design.proofs.Results.{default_is}
 use Rattle.nt_semantics.specs.Same.{is_same, is_one_of}
-use Rattle.nt_semantics.specs.State.{Over, MachineState, place_at, items_at, count_at, value_at, net_shape, more, each_below, world_of}
+use Rattle.nt_semantics.specs.State.{MachineState, standing_at, work_at, count_at, value_at, net_shape, more, each_below, world_of_state}
+use Rattle.nt_semantics.specs.declared.standing.Standing.TheVariants.{Over}
 use Rattle.nt_semantics.specs.StateFits.{IsStateOf, slot_shape}
-use Rattle.nt_semantics.specs.Step.{step, is_pending_at, is_some_item, is_some_put, proc_step, update_step, only_if, in_turns, assign_step, resolve_step, driven, evaluated, resolved, set_net, contribution, is_order, is_order_of, net_value, in_order, is_pending}
+use Rattle.nt_semantics.specs.Step.{step, is_pending_at, is_some_work, is_some_put, proc_step, update_step, only_if, in_turns, assign_step, resolve_step, drive, take_evaluation, take_resolution, set_net, contribution, is_order, is_order_of, net_value, in_order, is_pending}
 use Rattle.nt_semantics.proofs.Columns.{net_shape_there, slot_has, slot_of_net, slot_shape_there}
-use Rattle.nt_semantics.specs.Wake.{wake, calls_of, reads_at, one_more_if, place_after, items_after, waking_at}
+use Rattle.nt_semantics.specs.Wake.{wake, functions_of, reads_at, one_more_if, standing_after, work_after, waking_at}
 use Rattle.nt_design.specs.Plain.{IsPlain, IsConstantDriver, IsWholeSlot, net_of}
 use Rattle.nt_machine.specs.Plain.{IsPlainState, driven_plain, published_plain}
 use Rattle.nt_semantics.specs.declared.event.Event.{Event}
@@ -75,13 +76,13 @@ reads_nothing : (d : Design) (o : Object) (a : ℕ) → IsPlain d → reads_at d
 reads_nothing d o a plain =
     ap (λ reads. is_one_of reads o) (no_reads d.assigns (λ b assign at. (plain.assigns b assign at).reads) a)
 
-wakes_nothing : (d : Design) (o : Object) (changed : Bool) (s : MachineState) → IsPlain d → s.places ≡ [] → s.items ≡ [] → wake d o changed s ≡ s
+wakes_nothing : (d : Design) (o : Object) (changed : Bool) (s : MachineState) → IsPlain d → s.standings ≡ [] → s.work ≡ [] → wake d o changed s ≡ s
 unfolding wake
 wakes_nothing d o false s plain places items = refl
 wakes_nothing d o true s plain places items =
     λ j. record s {
-      places = none_below s.places (λ p. place_after (place_at s p) (waking_at d o s p)) places j;
-      items = none_below s.items (λ p. items_after (items_at s p) (waking_at d o s p)) items j;
+      standings = none_below s.standings (λ p. standing_after (standing_at s p) (waking_at d o s p)) places j;
+      work = none_below s.work (λ p. work_after (work_at s p) (waking_at d o s p)) items j;
       evaluations = counts j;
     }
   where
@@ -89,25 +90,25 @@ wakes_nothing d o true s plain places items =
     counts =
         numbers_below s.evaluations (λ a. one_more_if (reads_at d o a) (count_at s.evaluations a)) (λ a. ap (λ b. one_more_if b (count_at s.evaluations a)) (reads_nothing d o a plain))
 
-published_is : (d : Design) (n : ℕ) (value : Value) (s : MachineState) → IsPlain d → IsPlainState s → set_net d n value (resolved n s) ≡ published_plain s n value
+published_is : (d : Design) (n : ℕ) (value : Value) (s : MachineState) → IsPlain d → IsPlainState s → set_net d n value (take_resolution n s) ≡ published_plain s n value
 unfolding set_net
 published_is d n value s plain still =
-    wakes_nothing d (object.Net n) (not (is_same (value_at s.nets n) value)) (published_plain s n value) plain still.places still.items
+    wakes_nothing d (object.Net n) (not (is_same (value_at s.nets n) value)) (published_plain s n value) plain still.standings still.work
 
 -- ---- evaluations
 contributes : (shape : List Leaf) (low width : ℕ) (value : Value) → width ≡ 0 → contribution shape low width value ≡ value
 contributes shape low zero value h = refl
 contributes shape low (suc n) value h = absurd (omega (arith, h))
 
-driven_is : (d : Design) (s : MachineState) (a : ℕ) (t : Target) (value : Value) → IsWholeSlot t → driven d a value (evaluated a s) t ≡ driven_plain s a (net_of t) value
+driven_is : (d : Design) (s : MachineState) (a : ℕ) (t : Target) (value : Value) → IsWholeSlot t → drive d a value (take_evaluation a s) t ≡ driven_plain s a (net_of t) value
 driven_is d s a (target.Slot n slot low width) value whole =
     ap (λ new. driven_plain s a n new) (contributes (net_shape d n) low width value whole.1)
 driven_is d s a (target.Var v path) value whole = absurd whole
 driven_is d s a (target.Local i path) value whole = absurd whole
 
-const_value : (d : Design) (s : MachineState) (assign : Assign) (c : IsConstantDriver assign) → value_of (calls_of d) (world_of s) assign.right [] most_turns ≡ Some (c.constant.0, most_turns)
+const_value : (d : Design) (s : MachineState) (assign : Assign) (c : IsConstantDriver assign) → value_of (functions_of d) (world_of_state s) assign.right [] most_turns ≡ Some (c.constant.0, most_turns)
 const_value d s assign c =
-    ap (λ t. value_of (calls_of d) (world_of s) t [] most_turns) c.constant.1 ∙ value_const (calls_of d) (world_of s) c.constant.0 [] most_turns
+    ap (λ t. value_of (functions_of d) (world_of_state s) t [] most_turns) c.constant.1 ∙ value_const (functions_of d) (world_of_state s) c.constant.0 [] most_turns
 
 -- an evaluation that is allowed
 pub record Evaluates (d : Design) (s : MachineState) (a : ℕ) : Type 0 where
@@ -127,7 +128,7 @@ unfolding step
 step_evaluates d s a assign c active here =
     only_if_true (nat_lt 0 (count_at s.evaluations a)) (option_and_then (assign_step d a s) (slice_get d.assigns a)) active
     ∙ ap (option_and_then (assign_step d a s)) here
-    ∙ ap (in_turns (λ value. driven d a value (evaluated a s) assign.target)) (const_value d s assign c)
+    ∙ ap (in_turns (λ value. drive d a value (take_evaluation a s) assign.target)) (const_value d s assign c)
     ∙ ap (λ (t : MachineState). Some t) (driven_is d s a assign.target c.constant.0 c.whole)
 
 -- ---- resolutions
@@ -152,7 +153,7 @@ step_resolves d s n order net value plain still active here ordered is =
     only_if_true (nat_lt 0 (count_at s.resolutions n)) (option_and_then (resolve_step d n order s) (slice_get d.nets n)) active
     ∙ ap (option_and_then (resolve_step d n order s)) here
     ∙ only_if_true (is_order (length net.slots) order) _ ordered
-    ∙ ap (option_and_then (λ (v : Value). Some (set_net d n v (resolved n s)))) is
+    ∙ ap (option_and_then (λ (v : Value). Some (set_net d n v (take_resolution n s)))) is
     ∙ ap (λ (t : MachineState). Some t) (published_is d n value s plain still)
 
 -- ---- what a state has for each number of its design
@@ -246,11 +247,12 @@ no_proc (x ∷ xs) p proc h at = let e = ap length h in omega (arith, e)
 
 pub evaluates_keeps : (d : Design) (s : MachineState) (a : ℕ) (assign : Assign) (c : IsConstantDriver assign) → IsDesign d → IsPlain d → IsStateOf d s → slice_get d.assigns a ≡ Some assign → IsStateOf d (driven_plain s a (net_of assign.target) c.constant.0)
 evaluates_keeps d s a assign c is plain of here = record {
+  moment = of.moment;
   vars = of.vars;
   nets = of.nets;
   slots = value_set (map (λ (x : Assign). slot_shape d x.target) d.assigns) s.slots a c.constant.0 of.slots same;
-  places = of.places;
-  items = of.items;
+  standings = of.standings;
+  work = of.work;
   locals = of.locals;
   locals_filled = of.locals_filled;
   fresh = of.fresh;
@@ -312,11 +314,12 @@ resolved_shape d s n net order value is plain of here ordered value_is =
 
 pub resolves_keeps : (d : Design) (s : MachineState) (n : ℕ) (net : Net) (order : List ℕ) (value : Value) → IsDesign d → IsPlain d → IsStateOf d s → slice_get d.nets n ≡ Some net → is_order (length net.slots) order ≡ true → net_value d net.kind net.shape (in_order s.slots net.slots order) ≡ Some value → IsStateOf d (published_plain s n value)
 resolves_keeps d s n net order value is plain of here ordered value_is = record {
+  moment = of.moment;
   vars = of.vars;
   nets = value_set (net_shapes d) s.nets n value of.nets (subst (λ r. IsValueOf r value) (sym (net_shape_there d n net here)) (resolved_shape d s n net order value is plain of here ordered value_is));
   slots = of.slots;
-  places = of.places;
-  items = of.items;
+  standings = of.standings;
+  work = of.work;
   locals = of.locals;
   locals_filled = of.locals_filled;
   fresh = of.fresh;
@@ -329,8 +332,8 @@ resolves_keeps d s n net order value is plain of here ordered value_is = record 
 
 pub driven_still : (s : MachineState) (a n : ℕ) (value : Value) → IsPlainState s → IsPlainState (driven_plain s a n value)
 driven_still s a n value still = record {
-  places = still.places;
-  items = still.items;
+  standings = still.standings;
+  work = still.work;
   nonblocking = still.nonblocking;
   moved = still.moved;
   shown = still.shown;
@@ -339,8 +342,8 @@ driven_still s a n value still = record {
 
 pub published_still : (s : MachineState) (n : ℕ) (value : Value) → IsPlainState s → IsPlainState (published_plain s n value)
 published_still s n value still = record {
-  places = still.places;
-  items = still.items;
+  standings = still.standings;
+  work = still.work;
   nonblocking = still.nonblocking;
   moved = still.moved;
   shown = still.shown;
@@ -415,12 +418,12 @@ same_net d s n order net h here =
     (subst (λ (y : Net). is_order (length y.slots) order ≡ true) same x.ordered, x.active)
 
 -- no statement step and no update is in Active
-nothing_at : (s : MachineState) (p : ℕ) → IsPlainState s → is_pending_at s (place_at s p) ≡ false
-nothing_at s p still = ap (λ places. is_pending_at s (get_or places p Over)) still.places
+nothing_at : (s : MachineState) (p : ℕ) → IsPlainState s → is_pending_at s (standing_at s p) ≡ false
+nothing_at s p still = ap (λ places. is_pending_at s (get_or places p Over)) still.standings
 
 pub no_statement : (d : Design) (s : MachineState) (p : ℕ) → IsPlainState s → step d s (Stmt p) ≡ None
 unfolding step
-no_statement d s p still = ap (λ b. only_if b (proc_step d p s (items_at s p))) (nothing_at s p still)
+no_statement d s p still = ap (λ b. only_if b (proc_step d p s (work_at s p))) (nothing_at s p still)
 
 pub no_update : (d : Design) (s : MachineState) → IsPlainState s → step d s Update ≡ None
 unfolding step
@@ -465,7 +468,7 @@ value_given functions env assign c none =
 pub event_allowed : (d : Design) (s : MachineState) (e : Event) (b : Bool) → IsPlain d → IsPlainState s → b ≡ is_pending d s e → IsTrue b ↔ IsSome (step d s e)
 unfolding is_pending
 event_allowed d s (Stmt p) b plain still is = (
-  λ h. absurd (false≢true (sym (ap (λ x. x && is_some_item (items_at s p)) (nothing_at s p still)) ∙ sym is ∙ h)),
+  λ h. absurd (false≢true (sym (ap (λ x. x && is_some_work (work_at s p)) (nothing_at s p still)) ∙ sym is ∙ h)),
   λ h. absurd (false≢true (sym (ap (λ (o : Option MachineState). is_some o) (no_statement d s p still)) ∙ h)),
 )
 event_allowed d s (AssignEvent a) b plain still is = evaluation_allowed d s a b plain is

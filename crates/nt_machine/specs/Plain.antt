@@ -7,8 +7,8 @@ use Rattle.nt_semantics.specs.State.{MachineState, value_at, more, fewer}
 
 -- no procedure waits or is ready, and nothing is put into another region
 pub record IsPlainState (s : MachineState) : Type 0 where
-  pub places : s.places ≡ []
-  pub items : s.items ≡ []
+  pub standings : s.standings ≡ []
+  pub work : s.work ≡ []
   pub nonblocking : s.nonblocking ≡ []
   pub moved : s.moved ≡ []
   pub shown : s.shown ≡ []

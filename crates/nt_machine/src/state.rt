@@ -39,7 +39,7 @@ impl Model for State {
 
     ghost coded = { Prim.hlevel (codes, act.the_row.coded, tree.the_row.coded) };
 
-    ghost view = { λ s. record { moment = s.env.time; vars = s.env.vars; nets = s.env.nets; slots = s.slots; places = []; items = []; locals = []; fresh = []; evaluations = s.evaluations; resolutions = s.resolutions; nonblocking = []; moved = []; shown = []; finished = false } };
+    ghost view = { λ s. record { moment = s.env.time; vars = s.env.vars; nets = s.env.nets; slots = s.slots; standings = []; work = []; locals = []; fresh = []; evaluations = s.evaluations; resolutions = s.resolutions; nonblocking = []; moved = []; shown = []; finished = false } };
 }
 
 pub(crate) fn count_of(counts: &[u64], at: u32) -> u64

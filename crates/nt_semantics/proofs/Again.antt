@@ -32,9 +32,9 @@ use Rattle.nt_semantics.specs.Laws.{without, AgainChangesNothing}
 use Rattle.nt_semantics.specs.StateFits.{IsStateOf, slot_shape}
 use Rattle.nt_design.specs.Puts.{after_put, leaves_put}
 use Rattle.nt_semantics.specs.Same.{is_same, is_same_object}
-use Rattle.nt_semantics.specs.State.{MachineState, value_at, count_at, net_shape, more, world_of}
-use Rattle.nt_semantics.specs.Step.{step, set_net, put_var, resolve_step, resolved, only_if, is_order, in_order, net_value, driven, contribution, evaluated, assign_step, in_turns}
-use Rattle.nt_semantics.specs.Wake.{wake, calls_of}
+use Rattle.nt_semantics.specs.State.{MachineState, value_at, count_at, net_shape, more, world_of_state}
+use Rattle.nt_semantics.specs.Step.{step, set_net, put_var, resolve_step, take_resolution, only_if, is_order, in_order, net_value, drive, contribution, take_evaluation, assign_step, in_turns}
+use Rattle.nt_semantics.specs.Wake.{wake, functions_of}
 use Rattle.nt_design.specs.declared.put.Put.{Put}
 use Rattle.nt_semantics.specs.declared.event.Event.TheVariants.{Stmt, Assign as AssignEvent, Update, Resolve}
 
@@ -81,12 +81,12 @@ net_taken : (d : Design) (n : ℕ) (value : Value) (s : MachineState) → n < le
 unfolding set_net wake
 net_taken d n value s below = get_or-set_same s.nets n value [] below
 
-net_again : (d : Design) (n : ℕ) (order : List ℕ) (t : MachineState) (slots : List Value) (net : Net) (value : Value) → t.slots ≡ slots → net_value d net.kind net.shape (in_order slots net.slots order) ≡ Some value → value_at t.nets n ≡ value → is_order (length net.slots) order ≡ true → resolve_step d n order t net ≡ Some (resolved n t)
+net_again : (d : Design) (n : ℕ) (order : List ℕ) (t : MachineState) (slots : List Value) (net : Net) (value : Value) → t.slots ≡ slots → net_value d net.kind net.shape (in_order slots net.slots order) ≡ Some value → value_at t.nets n ≡ value → is_order (length net.slots) order ≡ true → resolve_step d n order t net ≡ Some (take_resolution n t)
 net_again d n order t slots net value same is there ordered =
     let of_t = ap (λ (xs : List Value). net_value d net.kind net.shape (in_order xs net.slots order)) same ∙ is in
-    rw (ordered, of_t) (ap (λ (u : MachineState). Some u) (set_net_same d n value (resolved n t) there))
+    rw (ordered, of_t) (ap (λ (u : MachineState). Some u) (set_net_same d n value (take_resolution n t) there))
 
-step_again : (d : Design) (n : ℕ) (order : List ℕ) (t : MachineState) (net : Net) → slice_get d.nets n ≡ Some net → resolve_step d n order t net ≡ Some (resolved n t) → 0 < count_at t.resolutions n → step d t (Resolve n order) ≡ Some (without t (Resolve n order))
+step_again : (d : Design) (n : ℕ) (order : List ℕ) (t : MachineState) (net : Net) → slice_get d.nets n ≡ Some net → resolve_step d n order t net ≡ Some (take_resolution n t) → 0 < count_at t.resolutions n → step d t (Resolve n order) ≡ Some (without t (Resolve n order))
 unfolding step
 step_again d n order t net here is left =
     rw (lt-ltb 0 (count_at t.resolutions n) left, here) is
@@ -96,16 +96,16 @@ resolve_again : (d : Design) (n : ℕ) (order : List ℕ) (s t : MachineState) (
 resolve_again d n order s t net below here h left =
     of_order (is_order (length net.slots) order) refl (net_value d net.kind net.shape (in_order s.slots net.slots order)) refl h
   where
-    of_order : (is : Bool) → is_order (length net.slots) order ≡ is → (o : Option Value) → net_value d net.kind net.shape (in_order s.slots net.slots order) ≡ o → only_if is (option_and_then (λ v. Some (set_net d n v (resolved n s))) o) ≡ Some t → step d t (Resolve n order) ≡ Some (without t (Resolve n order))
+    of_order : (is : Bool) → is_order (length net.slots) order ≡ is → (o : Option Value) → net_value d net.kind net.shape (in_order s.slots net.slots order) ≡ o → only_if is (option_and_then (λ v. Some (set_net d n v (take_resolution n s))) o) ≡ Some t → step d t (Resolve n order) ≡ Some (without t (Resolve n order))
     of_order false ordered o is g = absurd (none_some t g)
     of_order true ordered None is g = absurd (none_some t g)
     of_order true ordered (Some value) is g =
-        let to : set_net d n value (resolved n s) ≡ t = same_Some (set_net d n value (resolved n s)) t g in
-        step_again d n order t net here (net_again d n order t s.slots net value (ap (λ (u : MachineState). u.slots) (sym to) ∙ slots_kept d n value (resolved n s)) is (ap (λ (u : MachineState). value_at u.nets n) (sym to) ∙ net_taken d n value (resolved n s) below) ordered) left
+        let to : set_net d n value (take_resolution n s) ≡ t = same_Some (set_net d n value (take_resolution n s)) t g in
+        step_again d n order t net here (net_again d n order t s.slots net value (ap (λ (u : MachineState). u.slots) (sym to) ∙ slots_kept d n value (take_resolution n s)) is (ap (λ (u : MachineState). value_at u.nets n) (sym to) ∙ net_taken d n value (take_resolution n s) below) ordered) left
 
 -- ---- evaluations
 -- a driver's slot that has its contribution already
-slot_same : (d : Design) (a : ℕ) (value : Value) (s : MachineState) (n slot low width : ℕ) → value_at s.slots a ≡ contribution (net_shape d n) low width value → driven d a value s (target.Slot n slot low width) ≡ s
+slot_same : (d : Design) (a : ℕ) (value : Value) (s : MachineState) (n slot low width : ℕ) → value_at s.slots a ≡ contribution (net_shape d n) low width value → drive d a value s (target.Slot n slot low width) ≡ s
 slot_same d a value s n slot low width h =
     let new = contribution (net_shape d n) low width value in
     ap (λ (b : Bool). record s { slots = slice_set s.slots a new; resolutions = if b then s.resolutions else more s.resolutions n }) ((values_decide (value_at s.slots a) new).1 h)
@@ -125,29 +125,29 @@ put_taken d put s below = get_or-set_same s.vars put.var (after_put put (value_a
 -- an evaluation of an assignment gives this value in a state
 abbrev Evaluates : Design → ℕ → MachineState → Assign → Value → Type 0
 Evaluates d a s assign value =
-    (left : ℕ) × (value_of (calls_of d) (world_of s) assign.right [] most_turns ≡ Some (value, left))
+    (left : ℕ) × (value_of (functions_of d) (world_of_state s) assign.right [] most_turns ≡ Some (value, left))
 
 -- an evaluation in a state that has its value already
-evaluates_same : (d : Design) (a : ℕ) (t : MachineState) (assign : Assign) (value : Value) → slice_get d.assigns a ≡ Some assign → Evaluates d a t assign value → driven d a value (evaluated a t) assign.target ≡ evaluated a t → 0 < count_at t.evaluations a → step d t (AssignEvent a) ≡ Some (without t (AssignEvent a))
+evaluates_same : (d : Design) (a : ℕ) (t : MachineState) (assign : Assign) (value : Value) → slice_get d.assigns a ≡ Some assign → Evaluates d a t assign value → drive d a value (take_evaluation a t) assign.target ≡ take_evaluation a t → 0 < count_at t.evaluations a → step d t (AssignEvent a) ≡ Some (without t (AssignEvent a))
 unfolding step
 evaluates_same d a t assign value here is same left =
     rw (lt-ltb 0 (count_at t.evaluations a) left, here, is.1) (ap (λ (u : MachineState). Some u) same)
 
 -- what an evaluation of a slot leaves as it was
-slot_world : (d : Design) (a : ℕ) (value : Value) (s : MachineState) (n slot low width : ℕ) → world_of (driven d a value (evaluated a s) (target.Slot n slot low width)) ≡ world_of s
+slot_world : (d : Design) (a : ℕ) (value : Value) (s : MachineState) (n slot low width : ℕ) → world_of_state (drive d a value (take_evaluation a s) (target.Slot n slot low width)) ≡ world_of_state s
 slot_world d a value s n slot low width = refl
 
-slot_again : (d : Design) (a : ℕ) (s t : MachineState) (right : Tree) (value : Value) (n slot low width : ℕ) → a < length s.slots → driven d a value (evaluated a s) (target.Slot n slot low width) ≡ t → driven d a value (evaluated a t) (target.Slot n slot low width) ≡ evaluated a t
+slot_again : (d : Design) (a : ℕ) (s t : MachineState) (right : Tree) (value : Value) (n slot low width : ℕ) → a < length s.slots → drive d a value (take_evaluation a s) (target.Slot n slot low width) ≡ t → drive d a value (take_evaluation a t) (target.Slot n slot low width) ≡ take_evaluation a t
 slot_again d a s t right value n slot low width below to =
-    slot_same d a value (evaluated a t) n slot low width (ap (λ (u : MachineState). value_at u.slots a) (sym to) ∙ get_or-set_same s.slots a (contribution (net_shape d n) low width value) [] below)
+    slot_same d a value (take_evaluation a t) n slot low width (ap (λ (u : MachineState). value_at u.slots a) (sym to) ∙ get_or-set_same s.slots a (contribution (net_shape d n) low width value) [] below)
 
 -- a whole write into a variable, made again
-var_again : (d : Design) (a : ℕ) (s t : MachineState) (value : Value) (v : ℕ) → v < length s.vars → put_var d (leaves_put v 0 value) (evaluated a s) ≡ t → put_var d (leaves_put v 0 value) (evaluated a t) ≡ evaluated a t
+var_again : (d : Design) (a : ℕ) (s t : MachineState) (value : Value) (v : ℕ) → v < length s.vars → put_var d (leaves_put v 0 value) (take_evaluation a s) ≡ t → put_var d (leaves_put v 0 value) (take_evaluation a t) ≡ take_evaluation a t
 var_again d a s t value v below to =
     let put = leaves_put v 0 value in
     let old = value_at s.vars v in
-    let there : value_at t.vars v ≡ after_put put old = ap (λ (u : MachineState). value_at u.vars v) (sym to) ∙ put_taken d put (evaluated a s) below in
-    put_var_same d put (evaluated a t) (there ∙ sym (ap (after_put put) there ∙ write_twice v value old))
+    let there : value_at t.vars v ≡ after_put put old = ap (λ (u : MachineState). value_at u.vars v) (sym to) ∙ put_taken d put (take_evaluation a s) below in
+    put_var_same d put (take_evaluation a t) (there ∙ sym (ap (after_put put) there ∙ write_twice v value old))
 
 -- ---- an assignment that doesn't read what it writes
 abbrev other_than : ℕ → Object → Bool
@@ -175,7 +175,7 @@ put_nets : (d : Design) (put : Put) (s : MachineState) → (put_var d put s).net
 unfolding put_var wake
 put_nets d put s = refl
 
-put_alike : (d : Design) (put : Put) (s t : MachineState) → put_var d put s ≡ t → Alike (λ o. not (is_same_object (object.Var put.var) o)) (world_of t) (world_of s)
+put_alike : (d : Design) (put : Put) (s t : MachineState) → put_var d put s ≡ t → Alike (λ o. not (is_same_object (object.Var put.var) o)) (world_of_state t) (world_of_state s)
 put_alike d put s t to = record {
   objects = same;
   time = ap (λ (u : MachineState). u.moment) (sym to) ∙ put_time d put s;
@@ -183,7 +183,7 @@ put_alike d put s t to = record {
   element = refl;
 }
   where
-    same : (o : Object) → not (is_same_object (object.Var put.var) o) ≡ true → object_in (world_of t) o ≡ object_in (world_of s) o
+    same : (o : Object) → not (is_same_object (object.Var put.var) o) ≡ true → object_in (world_of_state t) o ≡ object_in (world_of_state s) o
     same (object.Net n) h =
         ap (λ (u : MachineState). value_at u.nets n) (sym to) ∙ ap (λ (xs : List Value). value_at xs n) (put_nets d put s)
     same (object.Var w) h =
@@ -195,25 +195,25 @@ record Room (d : Design) (s : MachineState) (a : ℕ) (assign : Assign) : Type 0
   slot : a < length s.slots
   var : (v : ℕ) (path : List Pick) → assign.target ≡ target.Var v path → v < length s.vars
 
-driven_again : (d : Design) (a : ℕ) (s t : MachineState) (assign : Assign) (value : Value) (to_target : Target) → assign.target ≡ to_target → Room d s a assign → reads_target assign to_target ≡ false → Evaluates d a s assign value → driven d a value (evaluated a s) to_target ≡ t → Evaluates d a t assign value × (driven d a value (evaluated a t) to_target ≡ evaluated a t)
+driven_again : (d : Design) (a : ℕ) (s t : MachineState) (assign : Assign) (value : Value) (to_target : Target) → assign.target ≡ to_target → Room d s a assign → reads_target assign to_target ≡ false → Evaluates d a s assign value → drive d a value (take_evaluation a s) to_target ≡ t → Evaluates d a t assign value × (drive d a value (take_evaluation a t) to_target ≡ take_evaluation a t)
 driven_again d a s t assign value (target.Slot n slot low width) is room other of to =
-    ((of.0, ap (λ (u : MachineState). value_of (calls_of d) (world_of u) assign.right [] most_turns) (sym to) ∙ of.1), slot_again d a s t assign.right value n slot low width room.slot to)
+    ((of.0, ap (λ (u : MachineState). value_of (functions_of d) (world_of_state u) assign.right [] most_turns) (sym to) ∙ of.1), slot_again d a s t assign.right value n slot low width room.slot to)
 driven_again d a s t assign value (target.Var v path) is room other of to =
     let only = others_only v (reads_of assign.right) other in
-    let alike = put_alike d (leaves_put v 0 value) (evaluated a s) t to in
-    let same = ap (λ (m : Timing Value). m [] most_turns) (frame (λ o. not (is_same_object (object.Var v) o)) (calls_of d) (world_of t) (world_of s) alike assign.right only) in
+    let alike = put_alike d (leaves_put v 0 value) (take_evaluation a s) t to in
+    let same = ap (λ (m : Timing Value). m [] most_turns) (frame (λ o. not (is_same_object (object.Var v) o)) (functions_of d) (world_of_state t) (world_of_state s) alike assign.right only) in
     ((of.0, same ∙ of.1), var_again d a s t value v (room.var v path is) to)
 driven_again d a s t assign value (target.Local i path) is room other of to =
-    ((of.0, ap (λ (u : MachineState). value_of (calls_of d) (world_of u) assign.right [] most_turns) (sym to) ∙ of.1), refl)
+    ((of.0, ap (λ (u : MachineState). value_of (functions_of d) (world_of_state u) assign.right [] most_turns) (sym to) ∙ of.1), refl)
 
 assign_again : (d : Design) (a : ℕ) (s t : MachineState) (assign : Assign) → slice_get d.assigns a ≡ Some assign → Room d s a assign → reads_target assign assign.target ≡ false → assign_step d a s assign ≡ Some t → 0 < count_at t.evaluations a → step d t (AssignEvent a) ≡ Some (without t (AssignEvent a))
 assign_again d a s t assign here room other h left =
-    of_value (value_of (calls_of d) (world_of s) assign.right [] most_turns) refl h
+    of_value (value_of (functions_of d) (world_of_state s) assign.right [] most_turns) refl h
   where
-    of_value : (m : Timed Value) → value_of (calls_of d) (world_of s) assign.right [] most_turns ≡ m → in_turns (λ value. driven d a value (evaluated a s) assign.target) m ≡ Some t → step d t (AssignEvent a) ≡ Some (without t (AssignEvent a))
+    of_value : (m : Timed Value) → value_of (functions_of d) (world_of_state s) assign.right [] most_turns ≡ m → in_turns (λ value. drive d a value (take_evaluation a s) assign.target) m ≡ Some t → step d t (AssignEvent a) ≡ Some (without t (AssignEvent a))
     of_value None is g = absurd (none_some t g)
     of_value (Some p) is g =
-        let r = driven_again d a s t assign p.0 assign.target refl room other (p.1, is) (same_Some (driven d a p.0 (evaluated a s) assign.target) t g) in
+        let r = driven_again d a s t assign p.0 assign.target refl room other (p.1, is) (same_Some (drive d a p.0 (take_evaluation a s) assign.target) t g) in
         evaluates_same d a t assign p.0 here r.0 r.1 left
 
 -- ---- all events

@@ -23,10 +23,14 @@ use Rattle.nt_semantics.proofs.Examples.{here, int_var, initial, run_one}
 use Rattle.nt_semantics.specs.Execution.{run, settle, is_active, IsComplete}
 use Rattle.nt_design.specs.Puts.{after_put, leaves_put}
 use Rattle.nt_semantics.specs.Same.{is_same}
-use Rattle.nt_semantics.specs.State.{Item, Do, Awaiting, Place, Unbegun, Ready, Waits, Over, MachineState, start_state, world_of}
-use Rattle.nt_semantics.specs.Statements.{item_step}
-use Rattle.nt_semantics.specs.Step.{step, stepped, put_var}
-use Rattle.nt_semantics.specs.Wake.{wake, calls_of}
+use Rattle.nt_semantics.specs.State.{MachineState, start_state, world_of_state}
+use Rattle.nt_semantics.specs.declared.standing.Standing.{Standing}
+use Rattle.nt_semantics.specs.declared.standing.Standing.TheVariants.{Unbegun, Ready, Waits, Over}
+use Rattle.nt_semantics.specs.declared.work.Work.{Work}
+use Rattle.nt_semantics.specs.declared.work.Work.TheVariants.{Do, Awaiting}
+use Rattle.nt_semantics.specs.Statements.{work_step}
+use Rattle.nt_semantics.specs.Step.{step, make_step, put_var}
+use Rattle.nt_semantics.specs.Wake.{wake, functions_of}
 use Rattle.nt_semantics.specs.declared.deed.Deed.TheVariants as deed
 use Rattle.nt_semantics.specs.declared.event.Event.TheVariants.{Stmt}
 
@@ -50,17 +54,17 @@ follows = record {
   unit = record { ten = 0; base = Ns };
 }
 
-abbrev waits : Item
+abbrev waits : Work
 waits = Awaiting (object.Var 0 ∷ []) sets_y
 
-abbrev state_of : ℕ → ℕ → Place → Place → List Item → List Item → Bool → MachineState
+abbrev state_of : ℕ → ℕ → Standing → Standing → List Work → List Work → Bool → MachineState
 state_of a y comb other comb_items other_items fresh = record {
   moment = 0;
   vars = int_value a ∷ int_value y ∷ [];
   nets = [];
   slots = [];
-  places = comb ∷ other ∷ [];
-  items = comb_items ∷ other_items ∷ [];
+  standings = comb ∷ other ∷ [];
+  work = comb_items ∷ other_items ∷ [];
   locals = [] ∷ [] ∷ [];
   fresh = false ∷ fresh ∷ [];
   evaluations = [];
@@ -88,25 +92,25 @@ waits_for_other : step follows unbegun (Stmt 0) ≡ None
 unfolding step
 waits_for_other = refl
 
-a_deed : (calls : Calls) (world : World) (locals : List Value) (left : ℕ) → item_step calls world (Do sets_a) [] locals left ≡ Some ((deed.Writes (leaves_put 0 0 (int_value 4)), []), left)
+a_deed : (calls : Calls) (world : World) (locals : List Value) (left : ℕ) → work_step calls world (Do sets_a) [] locals left ≡ Some ((deed.Writes (leaves_put 0 0 (int_value 4)), []), left)
 a_deed calls world locals left =
     step_assign calls world (target.Var 0 []) (tree.Const (int_value 4)) here [] locals left
     ∙ rw (value_const calls world (int_value 4) locals left) refl
 
-y_deed : (calls : Calls) (world : World) (rest : List Item) (locals : List Value) (left : ℕ) → item_step calls world (Do sets_y) rest locals left ≡ Some ((deed.Writes (leaves_put 1 0 (one (binary_of Add (only (object_in world (object.Var 0))) (only (int_value 1))))), rest), left)
+y_deed : (calls : Calls) (world : World) (rest : List Work) (locals : List Value) (left : ℕ) → work_step calls world (Do sets_y) rest locals left ≡ Some ((deed.Writes (leaves_put 1 0 (one (binary_of Add (only (object_in world (object.Var 0))) (only (int_value 1))))), rest), left)
 y_deed calls world rest locals left =
     step_assign calls world (target.Var 1 []) above here rest locals left
     ∙ rw (value_binary calls world Add (tree.Read (object.Var 0)) (tree.Const (int_value 1)) locals left, value_read calls world (object.Var 0) locals left, value_const calls world (int_value 1) locals left) refl
 
 a_step : step follows unbegun (Stmt 1) ≡ Some begun
-unfolding stepped put_var wake after_put is_same
+unfolding make_step put_var wake after_put is_same
 a_step =
-    proc_steps follows unbegun 1 (Do sets_a) [] (deed.Writes (leaves_put 0 0 (int_value 4)), []) most_turns refl refl (a_deed (calls_of follows) (world_of unbegun) [] most_turns)
+    proc_steps follows unbegun 1 (Do sets_a) [] (deed.Writes (leaves_put 0 0 (int_value 4)), []) most_turns refl refl (a_deed (functions_of follows) (world_of_state unbegun) [] most_turns)
 
 y_step : step follows begun (Stmt 0) ≡ Some followed
-unfolding stepped put_var wake after_put is_same
+unfolding make_step put_var wake after_put is_same
 y_step =
-    proc_steps follows begun 0 (Do sets_y) (waits ∷ []) (deed.Writes (leaves_put 1 0 (int_value 5)), waits ∷ []) most_turns refl refl (y_deed (calls_of follows) (world_of begun) (waits ∷ []) [] most_turns)
+    proc_steps follows begun 0 (Do sets_y) (waits ∷ []) (deed.Writes (leaves_put 1 0 (int_value 5)), waits ∷ []) most_turns refl refl (y_deed (functions_of follows) (world_of_state begun) (waits ∷ []) [] most_turns)
 
 stays : settle 0 unbegun ≡ unbegun
 unfolding settle is_active

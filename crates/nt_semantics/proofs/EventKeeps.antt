@@ -36,10 +36,10 @@ use Rattle.nt_semantics.proofs.Columns.{net_shape_there, slot_has, slot_shape_th
 use Rattle.nt_semantics.proofs.ValueKeeps.{net_keeps, put_keeps}
 use Rattle.nt_design.specs.Puts.{leaves_put}
 use Rattle.nt_semantics.specs.Same.{is_same}
-use Rattle.nt_semantics.specs.State.{MachineState, value_at, net_shape, var_shape, more, fewer, world_of, z_value}
+use Rattle.nt_semantics.specs.State.{MachineState, value_at, net_shape, var_shape, more, fewer, world_of_state, z_value}
 use Rattle.nt_semantics.specs.StateFits.{IsStateOf, slot_shape}
-use Rattle.nt_semantics.specs.Step.{assign_step, resolve_step, driven, evaluated, resolved, contribution, joined_wires, net_value, in_order, is_order, all_below, is_distinct, in_turns, only_if, set_net}
-use Rattle.nt_semantics.specs.Wake.{calls_of}
+use Rattle.nt_semantics.specs.Step.{assign_step, resolve_step, drive, take_evaluation, take_resolution, contribution, joined_wires, net_value, in_order, is_order, all_below, is_distinct, in_turns, only_if, set_net}
+use Rattle.nt_semantics.specs.Wake.{functions_of}
 
 -- ---- what comes out
 -- what came out has what all that comes out has
@@ -50,17 +50,18 @@ turns_give f P (Some p) y h is = (p.0, h, same_Some (f p.0) y is)
 -- ---- states with other slots and counts
 pub columns_keep : (d : Design) (s : MachineState) (slots : List Value) (evaluations resolutions : List ℕ) → IsStateOf d s → AreValuesOf (map (λ (assign : Assign). slot_shape d assign.target) d.assigns) slots → length evaluations ≡ length s.evaluations → length resolutions ≡ length s.resolutions → IsStateOf d (record s { slots = slots; evaluations = evaluations; resolutions = resolutions })
 columns_keep d s slots evaluations resolutions of same e r = record {
+  moment = of.moment;
   vars = of.vars;
   nets = of.nets;
   slots = same;
-  places = of.places;
-  items = of.items;
+  standings = of.standings;
+  work = of.work;
   locals = of.locals;
   locals_filled = of.locals_filled;
   fresh = of.fresh;
   evaluations = e ∙ of.evaluations;
   resolutions = r ∙ of.resolutions;
-  procs = λ p proc at. let x = of.procs p proc at in record { items = x.items; place = x.place; inside = x.inside; called = x.called };
+  procs = λ p proc at. let x = of.procs p proc at in record { work = x.work; standing = x.standing };
   nonblocking = of.nonblocking;
   moved = of.moved;
 }
@@ -103,7 +104,7 @@ joined_has shape leaf (value ∷ values) h all =
     }
 
 module _ (d : Design) (design : IsDesign d) where
-  pub outside : (s : MachineState) → IsStateOf d s → Outside d (world_of s)
+  pub outside : (s : MachineState) → IsStateOf d s → Outside d (world_of_state s)
   outside s of = record { nets = of.nets; vars = of.vars; many = refl; element = refl }
 
   -- ---- evaluations
@@ -118,7 +119,7 @@ module _ (d : Design) (design : IsDesign d) where
   var_below v shape h =
       subst (λ n. v < n) (length-map d.vars (λ (x : Var). x.shape)) (slice_get_within (var_shapes d) v shape h)
 
-  driven_keeps : (a : ℕ) (value : Value) (s : MachineState) (t : Target) (leaves : List Leaf) → IsDriven d.nets a t → target_shape (scope_with d [] None) t ≡ Some leaves → IsValueOf leaves value → get_or (map (λ (assign : Assign). slot_shape d assign.target) d.assigns) a [] ≡ slot_shape d t → IsStateOf d s → IsStateOf d (driven d a value s t)
+  driven_keeps : (a : ℕ) (value : Value) (s : MachineState) (t : Target) (leaves : List Leaf) → IsDriven d.nets a t → target_shape (scope_with d [] None) t ≡ Some leaves → IsValueOf leaves value → get_or (map (λ (assign : Assign). slot_shape d assign.target) d.assigns) a [] ≡ slot_shape d t → IsStateOf d s → IsStateOf d (drive d a value s t)
   driven_keeps a value s (target.Local i path) leaves to h is slot of = of
   driven_keeps a value s (target.Var v path) leaves to h is slot of =
       let x = on_shape_back (slice_get (var_shapes d) v) (path_shape (scope_with d [] None) path) leaves h in
@@ -147,10 +148,10 @@ module _ (d : Design) (design : IsDesign d) where
   pub assign_keeps : (a : ℕ) (assign : Assign) (s t : MachineState) → slice_get d.assigns a ≡ Some assign → IsStateOf d s → assign_step d a s assign ≡ Some t → IsStateOf d t
   assign_keeps a assign s t at of h =
       let is = design.assigns a assign at in
-      let gives = value_has d design most_turns [] (world_of s) (outside s of) assign.right is.shape.0 is.shape.2 [] (λ i shape none. absurd (none-some shape none)) most_turns in
-      let x = turns_give (λ value. driven d a value (evaluated a s) assign.target) (IsValueOf is.shape.0) (value_of (calls_of d) (world_of s) assign.right [] most_turns) t gives h in
+      let gives = value_has d design most_turns [] (world_of_state s) (outside s of) assign.right is.shape.0 is.shape.2 [] (λ i shape none. absurd (none-some shape none)) most_turns in
+      let x = turns_give (λ value. drive d a value (take_evaluation a s) assign.target) (IsValueOf is.shape.0) (value_of (functions_of d) (world_of_state s) assign.right [] most_turns) t gives h in
       subst (IsStateOf d) x.2
-      (driven_keeps a x.0 (evaluated a s) assign.target is.shape.0 is.target is.shape.1 x.1 (slot_shape_there d a assign at)
+      (driven_keeps a x.0 (take_evaluation a s) assign.target is.shape.0 is.target is.shape.1 x.1 (slot_shape_there d a assign at)
       (columns_keep d s s.slots (fewer 1 s.evaluations a) s.resolutions of of.slots (length-set s.evaluations a _) refl))
 
   -- ---- resolutions
@@ -178,7 +179,7 @@ module _ (d : Design) (design : IsDesign d) where
   net_value_has net Unresolved (first ∷ rest) value is all few h =
       subst (IsValueOf net.shape) (same_Some first value h) (All-head (IsValueOf net.shape) first rest all)
   net_value_has net (Resolved f) given value is all few h =
-      let x = turns_give (λ v. v) (IsValueOf (is.0).result) (calls_of d f given most_turns) value (results_fit d design most_turns f is.0 given most_turns is.1 may) h in
+      let x = turns_give (λ v. v) (IsValueOf (is.0).result) (functions_of d f given most_turns) value (results_fit d design most_turns f is.0 given most_turns is.1 may) h in
       subst (λ r. IsValueOf r value) (is.2).result (subst (IsValueOf (is.0).result) x.2 x.1)
     where
       same_shape : (shape : List Leaf) → (is.0).args ≡ shape ∷ [] → net.shape ≡ shape
@@ -196,17 +197,17 @@ module _ (d : Design) (design : IsDesign d) where
   resolve_keeps n order s t net at of h =
       of_order (is_order (length net.slots) order) refl h
     where
-      of_value : is_order (length net.slots) order ≡ true → (o : Option Value) → net_value d net.kind net.shape (in_order s.slots net.slots order) ≡ o → option_and_then (λ value. Some (set_net d n value (resolved n s))) o ≡ Some t → IsStateOf d t
+      of_value : is_order (length net.slots) order ≡ true → (o : Option Value) → net_value d net.kind net.shape (in_order s.slots net.slots order) ≡ o → option_and_then (λ value. Some (set_net d n value (take_resolution n s))) o ≡ Some t → IsStateOf d t
       of_value ordered None is g = absurd (none-some t g)
       of_value ordered (Some value) is g =
           let parts = order_parts (length net.slots) order ordered in
           let many : length (in_order s.slots net.slots order) ≡ length order = length-map order (λ slot. value_at s.slots (get_or net.slots slot 0)) in
           let few = (design.nets n net at).few_drivers in
-          subst (IsStateOf d) (same_Some (set_net d n value (resolved n s)) t g)
-          (net_keeps d design n value (resolved n s)
+          subst (IsStateOf d) (same_Some (set_net d n value (take_resolution n s)) t g)
+          (net_keeps d design n value (take_resolution n s)
           (subst (λ r. IsValueOf r value) (sym (net_shape_there d n net at)) (net_value_has net net.kind (in_order s.slots net.slots order) value (design.nets n net at).kind (each_has n net s at of order parts.1) (omega (arith, parts.0, many, few)) is))
           (columns_keep d s s.slots s.evaluations (fewer 1 s.resolutions n) of of.slots refl (length-set s.resolutions n _)))
 
-      of_order : (b : Bool) → is_order (length net.slots) order ≡ b → only_if b (option_and_then (λ value. Some (set_net d n value (resolved n s))) (net_value d net.kind net.shape (in_order s.slots net.slots order))) ≡ Some t → IsStateOf d t
+      of_order : (b : Bool) → is_order (length net.slots) order ≡ b → only_if b (option_and_then (λ value. Some (set_net d n value (take_resolution n s))) (net_value d net.kind net.shape (in_order s.slots net.slots order))) ≡ Some t → IsStateOf d t
       of_order false is g = absurd (none-some t g)
       of_order true is g = of_value is (net_value d net.kind net.shape (in_order s.slots net.slots order)) refl g

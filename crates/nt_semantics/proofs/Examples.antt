@@ -22,10 +22,14 @@ use Rattle.nt_semantics.proofs.Equations.{to_do_block, to_do_nonblocking, to_do_
 use Rattle.nt_semantics.specs.Execution.{run, settle, is_active, IsComplete, expansion}
 use Rattle.nt_design.specs.Puts.{after_put, leaves_put}
 use Rattle.nt_semantics.specs.Same.{is_same}
-use Rattle.nt_semantics.specs.State.{Item, Do, Place, Ready, Inactive, Over, MachineState, start_state, value_at, world_of}
-use Rattle.nt_semantics.specs.Statements.{item_step}
-use Rattle.nt_semantics.specs.Step.{step, stepped, put_var}
-use Rattle.nt_semantics.specs.Wake.{wake, calls_of}
+use Rattle.nt_semantics.specs.State.{MachineState, start_state, value_at, world_of_state}
+use Rattle.nt_semantics.specs.declared.standing.Standing.{Standing}
+use Rattle.nt_semantics.specs.declared.standing.Standing.TheVariants.{Ready, Inactive, Over}
+use Rattle.nt_semantics.specs.declared.work.Work.{Work}
+use Rattle.nt_semantics.specs.declared.work.Work.TheVariants.{Do}
+use Rattle.nt_semantics.specs.Statements.{work_step}
+use Rattle.nt_semantics.specs.Step.{step, make_step, put_var}
+use Rattle.nt_semantics.specs.Wake.{wake, functions_of}
 use Rattle.nt_design.specs.declared.put.Put.{Put}
 use Rattle.nt_semantics.specs.declared.deed.Deed.TheVariants as deed
 use Rattle.nt_semantics.specs.declared.event.Event.{Event}
@@ -59,14 +63,14 @@ abbrev one_int : Value
 one_int = int_value 1
 
 -- a state in slot 0 of such a design
-abbrev state_of : List Value → Place → List Item → Bool → List Put → List Put → MachineState
-state_of vars place items fresh nonblocking moved = record {
+abbrev state_of : List Value → Standing → List Work → Bool → List Put → List Put → MachineState
+state_of vars standing items fresh nonblocking moved = record {
   moment = 0;
   vars = vars;
   nets = [];
   slots = [];
-  places = place ∷ [];
-  items = items ∷ [];
+  standings = standing ∷ [];
+  work = items ∷ [];
   locals = [] ∷ [];
   fresh = fresh ∷ [];
   evaluations = [];
@@ -88,7 +92,7 @@ later v n = act.Nonblocking (target.Var v []) (tree.Const (int_value n)) here
 abbrev put : ℕ → ℕ → Put
 put v n = leaves_put v 0 (int_value n)
 
-later_step : (calls : Calls) (world : World) (v n : ℕ) (rest : List Item) (locals : List Value) (left : ℕ) → item_step calls world (Do (later v n)) rest locals left ≡ Some ((deed.Schedules (put v n), rest), left)
+later_step : (calls : Calls) (world : World) (v n : ℕ) (rest : List Work) (locals : List Value) (left : ℕ) → work_step calls world (Do (later v n)) rest locals left ≡ Some ((deed.Schedules (put v n), rest), left)
 later_step calls world v n rest locals left =
     step_nonblocking calls world (target.Var v []) (tree.Const (int_value n)) here rest locals left
     ∙ rw (value_const calls world (int_value n) locals left) refl
@@ -120,14 +124,14 @@ abbrev updated_both : MachineState
 updated_both = state_of (int_value 2 ∷ []) Over [] false [] []
 
 first_step : step two_updates begins (Stmt 0) ≡ Some after_first
-unfolding stepped put_var wake
+unfolding make_step put_var wake
 first_step =
-    proc_steps two_updates begins 0 (Do (later 0 1)) (Do (later 0 2) ∷ []) (deed.Schedules (put 0 1), Do (later 0 2) ∷ []) most_turns refl refl (later_step (calls_of two_updates) (world_of begins) 0 1 (Do (later 0 2) ∷ []) [] most_turns)
+    proc_steps two_updates begins 0 (Do (later 0 1)) (Do (later 0 2) ∷ []) (deed.Schedules (put 0 1), Do (later 0 2) ∷ []) most_turns refl refl (later_step (functions_of two_updates) (world_of_state begins) 0 1 (Do (later 0 2) ∷ []) [] most_turns)
 
 second_step : step two_updates after_first (Stmt 0) ≡ Some after_second
-unfolding stepped put_var wake
+unfolding make_step put_var wake
 second_step =
-    proc_steps two_updates after_first 0 (Do (later 0 2)) [] (deed.Schedules (put 0 2), []) most_turns refl refl (later_step (calls_of two_updates) (world_of after_first) 0 2 [] [] most_turns)
+    proc_steps two_updates after_first 0 (Do (later 0 2)) [] (deed.Schedules (put 0 2), []) most_turns refl refl (later_step (functions_of two_updates) (world_of_state after_first) 0 2 [] [] most_turns)
 
 first_update : step two_updates moved_both Update ≡ Some updated_first
 unfolding step put_var wake after_put is_same
@@ -215,29 +219,29 @@ abbrev put_done : MachineState
 put_done = state_of (int_value 1 ∷ int_value 0 ∷ []) Over [] false [] []
 
 put_step : step inactive_first zero_start (Stmt 0) ≡ Some put_later
-unfolding stepped put_var wake
+unfolding make_step put_var wake
 put_step =
-    proc_steps inactive_first zero_start 0 (Do (later 0 1)) (Do no_delay ∷ []) (deed.Schedules (put 0 1), Do no_delay ∷ []) most_turns refl refl (later_step (calls_of inactive_first) (world_of zero_start) 0 1 (Do no_delay ∷ []) [] most_turns)
+    proc_steps inactive_first zero_start 0 (Do (later 0 1)) (Do no_delay ∷ []) (deed.Schedules (put 0 1), Do no_delay ∷ []) most_turns refl refl (later_step (functions_of inactive_first) (world_of_state zero_start) 0 1 (Do no_delay ∷ []) [] most_turns)
 
-delays : (calls : Calls) (world : World) (locals : List Value) (left : ℕ) → item_step calls world (Do no_delay) [] locals left ≡ Some ((deed.Delays 0, Do copies_a ∷ []), left)
+delays : (calls : Calls) (world : World) (locals : List Value) (left : ℕ) → work_step calls world (Do no_delay) [] locals left ≡ Some ((deed.Delays 0, Do copies_a ∷ []), left)
 delays calls world locals left =
     step_delay calls world (tree.Const (int_value 0)) copies_a here [] locals left
     ∙ rw (value_const calls world (int_value 0) locals left, to_do_assign (target.Var 1 []) (tree.Read (object.Var 0)) here) refl
 
 delay_step : step inactive_first put_later (Stmt 0) ≡ Some in_inactive
-unfolding stepped put_var wake
+unfolding make_step put_var wake
 delay_step =
-    proc_steps inactive_first put_later 0 (Do no_delay) [] (deed.Delays 0, Do copies_a ∷ []) most_turns refl refl (delays (calls_of inactive_first) (world_of put_later) [] most_turns)
+    proc_steps inactive_first put_later 0 (Do no_delay) [] (deed.Delays 0, Do copies_a ∷ []) most_turns refl refl (delays (functions_of inactive_first) (world_of_state put_later) [] most_turns)
 
-copy_deed : (calls : Calls) (world : World) (locals : List Value) (left : ℕ) → item_step calls world (Do copies_a) [] locals left ≡ Some ((deed.Writes (leaves_put 1 0 (value_at world.vars 0)), []), left)
+copy_deed : (calls : Calls) (world : World) (locals : List Value) (left : ℕ) → work_step calls world (Do copies_a) [] locals left ≡ Some ((deed.Writes (leaves_put 1 0 (value_at world.vars 0)), []), left)
 copy_deed calls world locals left =
     step_assign calls world (target.Var 1 []) (tree.Read (object.Var 0)) here [] locals left
     ∙ rw (value_read calls world (object.Var 0) locals left) refl
 
 copy_step : step inactive_first active_again (Stmt 0) ≡ Some copied
-unfolding stepped put_var wake after_put is_same
+unfolding make_step put_var wake after_put is_same
 copy_step =
-    proc_steps inactive_first active_again 0 (Do copies_a) [] (deed.Writes (leaves_put 1 0 (int_value 0)), []) most_turns refl refl (copy_deed (calls_of inactive_first) (world_of active_again) [] most_turns)
+    proc_steps inactive_first active_again 0 (Do copies_a) [] (deed.Writes (leaves_put 1 0 (int_value 0)), []) most_turns refl refl (copy_deed (functions_of inactive_first) (world_of_state active_again) [] most_turns)
 
 put_update : step inactive_first put_moved Update ≡ Some put_done
 unfolding step put_var wake after_put is_same

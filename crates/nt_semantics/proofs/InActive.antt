@@ -6,15 +6,16 @@ use Rattle.std.proofs.lemmas.Option.{slice_get_past}
 use Rattle.nt_design.specs.declared.design.Design.{Design}
 use Rattle.nt_design.specs.declared.object.Net.{Net}
 use Rattle.nt_semantics.specs.Laws.{OnlyPending}
-use Rattle.nt_semantics.specs.State.{Item, MachineState, place_at, items_at, count_at}
-use Rattle.nt_semantics.specs.Step.{step, is_pending, is_pending_at, only_if, proc_step, update_step, resolve_step, assign_step, is_some_item, is_some_put, is_order_of}
+use Rattle.nt_semantics.specs.State.{MachineState, standing_at, work_at, count_at}
+use Rattle.nt_semantics.specs.declared.work.Work.{Work}
+use Rattle.nt_semantics.specs.Step.{step, is_pending, is_pending_at, only_if, proc_step, update_step, resolve_step, assign_step, is_some_work, is_some_put, is_order_of}
 use Rattle.nt_design.specs.declared.put.Put.{Put}
 use Rattle.nt_semantics.specs.declared.event.Event.TheVariants.{Stmt, Assign as AssignEvent, Update, Resolve}
 
 true_false : true ≡ false → ⊥
 true_false h = cc
 
-no_item : (d : Design) (p : ℕ) (s : MachineState) (is : Bool) (items : List Item) → (is && is_some_item items) ≡ false → only_if is (proc_step d p s items) ≡ None
+no_item : (d : Design) (p : ℕ) (s : MachineState) (is : Bool) (items : List Work) → (is && is_some_work items) ≡ false → only_if is (proc_step d p s items) ≡ None
 no_item d p s false items h = refl
 no_item d p s true [] h = refl
 no_item d p s true (i ∷ items) h = absurd (true_false h)
@@ -37,7 +38,7 @@ no_net d n order s true (Some net) h = rw h refl
 
 pub only_pending : OnlyPending
 unfolding step is_pending
-only_pending d s (Stmt p) h = no_item d p s (is_pending_at s (place_at s p)) (items_at s p) h
+only_pending d s (Stmt p) h = no_item d p s (is_pending_at s (standing_at s p)) (work_at s p) h
 only_pending d s (AssignEvent a) h =
     no_one (nat_lt 0 (count_at s.evaluations a)) (assign_step d a s) d.assigns a h
 only_pending d s Update h = no_update d s s.moved h

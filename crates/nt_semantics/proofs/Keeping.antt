@@ -1,29 +1,33 @@
 -- What a move keeps: the slot, or else it begins a later one; and that the state is one of its design.
-use Rattle.std.proofs.Common.{◌≡◌, ℕ, zero, suc, ◌<◌, ◌≤◌, Bool, true, false, ◌||◌, ◌==◌, if◌then◌else◌, List, [], ◌∷◌, map, length, get_or, refl, ap, sym, subst, ◌∙◌, arith, inl, inr}
+use Rattle.std.proofs.Common.{◌≡◌, ℕ, zero, suc, ◌<◌, ◌≤◌, ◌^◌, Bool, true, false, ◌||◌, ◌==◌, if◌then◌else◌, List, [], ◌∷◌, map, length, get_or, refl, ap, sym, subst, ◌∙◌, arith, inl, inr}
 use Rattle.std.specs.Prelude.{◌⊎◌, Option, Some, None, min, nat_le, slice_get}
 use Rattle.std.specs.List.{list_any}
 use Rattle.std.proofs.lemmas.Bool.{eqb-true, eq-eqb, cases_lt}
+use Rattle.std.proofs.lemmas.Bool.Decides.{nat_tests}
 use Rattle.std.proofs.lemmas.List.{length-map}
 use Rattle.std.proofs.lemmas.Option.{same_Some}
 use Rattle.nt_design.specs.declared.design.Design.{Design}
 use Rattle.nt_design.specs.declared.process.Proc.{Proc}
 use Rattle.nt_semantics.proofs.Filling.{is_at, is_of_some, none_some, true_not}
-use Rattle.nt_semantics.specs.Execution.{is_over, has_inactive, activated, activate, move_updates, begin_slot, begin_next, next_moment, sooner, arrived}
+use Rattle.nt_semantics.specs.Execution.{is_over, has_inactive, active_standing, activate, move_updates, begin_slot, begin_next, next_moment, sooner, standing_in_slot}
 use Rattle.nt_semantics.specs.Laws.{MoveStays, MoveKeeps}
-use Rattle.nt_semantics.specs.State.{Item, Place, Unbegun, Ready, Inactive, Later, Waits, Over, MachineState, place_at, items_at}
-use Rattle.nt_semantics.specs.StateFits.{IsStateOf, PlaceFits}
+use Rattle.nt_semantics.specs.State.{MachineState, standing_at, work_at}
+use Rattle.nt_semantics.specs.declared.standing.Standing.{Standing}
+use Rattle.nt_semantics.specs.declared.standing.Standing.TheVariants.{Unbegun, Ready, Inactive, Later, Waits, Over}
+use Rattle.nt_semantics.specs.declared.work.Work.{Work}
+use Rattle.nt_semantics.specs.StateFits.{IsStateOf, StandingFits}
 use Rattle.nt_semantics.specs.Step.{is_some_put}
 
 -- the procedure that is delayed to a moment
-record Delayed (m : ℕ) (places : List Place) : Type 0 where
+record Delayed (m : ℕ) (places : List Standing) : Type 0 where
   proc : ℕ
   inside : proc < length places
   there : get_or places proc Over ≡ Later m
 
-one_more : (m : ℕ) (place : Place) (places : List Place) → Delayed m places → Delayed m (place ∷ places)
-one_more m place places x = record { proc = suc x.proc; inside = omega (arith, x.inside); there = x.there }
+one_more : (m : ℕ) (standing : Standing) (places : List Standing) → Delayed m places → Delayed m (standing ∷ places)
+one_more m standing places x = record { proc = suc x.proc; inside = omega (arith, x.inside); there = x.there }
 
-delayed : (m : ℕ) (places : List Place) → list_any (is_at m) places ≡ true → Delayed m places
+delayed : (m : ℕ) (places : List Standing) → list_any (is_at m) places ≡ true → Delayed m places
 delayed m [] h = absurd (true_not h)
 delayed m (Unbegun ∷ places) h = one_more m Unbegun places (delayed m places h)
 delayed m (Ready ∷ places) h = one_more m Ready places (delayed m places h)
@@ -38,17 +42,17 @@ delayed m (Later at ∷ places) h = of_test (λ g. delayed m places g) (at == m)
     of_test rest false is g = one_more m (Later at) places (rest g)
 
 -- a slot that begins is a later one
-later_slot : (d : Design) (s : MachineState) (m : ℕ) → IsStateOf d s → next_moment s.places ≡ Some m → s.moment < m
+later_slot : (d : Design) (s : MachineState) (m : ℕ) → IsStateOf d s → next_moment s.standings ≡ Some m → s.moment < m
 later_slot d s m is h =
-    let x = delayed m s.places (is_of_some s.places m h) in
-    of_proc x.proc x.there (slice_get d.procs x.proc) refl (subst (λ k. x.proc < k) is.places x.inside)
+    let x = delayed m s.standings (is_of_some s.standings m h) in
+    of_proc x.proc x.there (slice_get d.procs x.proc) refl (subst (λ k. x.proc < k) is.standings x.inside)
   where
     none_proc : (proc : Proc) → None ≡ Some proc → ⊥
     none_proc proc g = cc
 
-    of_proc : (p : ℕ) → place_at s p ≡ Later m → (o : Option Proc) → slice_get d.procs p ≡ o → p < length d.procs → s.moment < m
+    of_proc : (p : ℕ) → standing_at s p ≡ Later m → (o : Option Proc) → slice_get d.procs p ≡ o → p < length d.procs → s.moment < m
     of_proc p there (Some proc) at inside =
-        (subst (λ (place : Place). PlaceFits s.moment (items_at s p) place) there (is.procs p proc at).place).1
+        (subst (λ (standing : Standing). StandingFits s.moment (work_at s p) standing) there (is.procs p proc at).standing).1.0
     of_proc p there None at inside =
         absurd (none_there d.procs p inside at)
       where
@@ -60,36 +64,36 @@ later_slot d s m is h =
 pub move_stays : MoveStays
 move_stays until d s t is calm h = of_inactive (has_inactive s) refl h
   where
-    of_limit : (m : ℕ) → next_moment s.places ≡ Some m → (may : Bool) → (if may then Some (begin_slot m s) else None) ≡ Some t → s.moment < t.moment
+    of_limit : (m : ℕ) → next_moment s.standings ≡ Some m → (may : Bool) → (if may then Some (begin_slot m s) else None) ≡ Some t → s.moment < t.moment
     of_limit m at false g = absurd (none_some t g)
     of_limit m at true g =
         subst (λ (u : MachineState). s.moment < u.moment) (same_Some (begin_slot m s) t g) (later_slot d s m is at)
 
-    of_next : (o : Option ℕ) → next_moment s.places ≡ o → begin_next until s o ≡ Some t → s.moment < t.moment
+    of_next : (o : Option ℕ) → next_moment s.standings ≡ o → begin_next until s o ≡ Some t → s.moment < t.moment
     of_next None at g = absurd (none_some t g)
     of_next (Some m) at g = of_limit m at (nat_le m until) g
 
-    of_finish : (done : Bool) → (if done then None else begin_next until s (next_moment s.places)) ≡ Some t → s.moment < t.moment
+    of_finish : (done : Bool) → (if done then None else begin_next until s (next_moment s.standings)) ≡ Some t → s.moment < t.moment
     of_finish true g = absurd (none_some t g)
-    of_finish false g = of_next (next_moment s.places) refl g
+    of_finish false g = of_next (next_moment s.standings) refl g
 
-    of_updates : has_inactive s ≡ false → (some : Bool) → is_some_put s.nonblocking ≡ some → (if some then Some (move_updates s) else (if s.finished then None else begin_next until s (next_moment s.places))) ≡ Some t → ((is_over s ≡ false) × (t.moment ≡ s.moment)) ⊎ ((is_over s ≡ true) × (s.moment < t.moment))
+    of_updates : has_inactive s ≡ false → (some : Bool) → is_some_put s.nonblocking ≡ some → (if some then Some (move_updates s) else (if s.finished then None else begin_next until s (next_moment s.standings))) ≡ Some t → ((is_over s ≡ false) × (t.moment ≡ s.moment)) ⊎ ((is_over s ≡ true) × (s.moment < t.moment))
     of_updates calm_too true is_some g =
         inl (rw (calm, calm_too, is_some) refl, ap (λ (u : MachineState). u.moment) (sym (same_Some (move_updates s) t g)))
     of_updates calm_too false is_some g = inr (rw (calm, calm_too, is_some) refl, of_finish s.finished g)
 
-    of_inactive : (some : Bool) → has_inactive s ≡ some → (if some then Some (activate s) else (if is_some_put s.nonblocking then Some (move_updates s) else (if s.finished then None else begin_next until s (next_moment s.places)))) ≡ Some t → ((is_over s ≡ false) × (t.moment ≡ s.moment)) ⊎ ((is_over s ≡ true) × (s.moment < t.moment))
+    of_inactive : (some : Bool) → has_inactive s ≡ some → (if some then Some (activate s) else (if is_some_put s.nonblocking then Some (move_updates s) else (if s.finished then None else begin_next until s (next_moment s.standings)))) ≡ Some t → ((is_over s ≡ false) × (t.moment ≡ s.moment)) ⊎ ((is_over s ≡ true) × (s.moment < t.moment))
     of_inactive true is_some g =
         inl (rw (calm, is_some) refl, ap (λ (u : MachineState). u.moment) (sym (same_Some (activate s) t g)))
     of_inactive false is_some g = of_updates is_some (is_some_put s.nonblocking) refl g
 
 -- ---- states of a design
-place_mapped : (f : Place → Place) → f Over ≡ Over → (places : List Place) (p : ℕ) → get_or (map f places) p Over ≡ f (get_or places p Over)
+place_mapped : (f : Standing → Standing) → f Over ≡ Over → (places : List Standing) (p : ℕ) → get_or (map f places) p Over ≡ f (get_or places p Over)
 place_mapped f over [] p = sym over
-place_mapped f over (place ∷ places) zero = refl
-place_mapped f over (place ∷ places) (suc p) = place_mapped f over places p
+place_mapped f over (standing ∷ places) zero = refl
+place_mapped f over (standing ∷ places) (suc p) = place_mapped f over places p
 
-activated_fits : (moment : ℕ) (items : List Item) (place : Place) → PlaceFits moment items place → PlaceFits moment items (activated place)
+activated_fits : (moment : ℕ) (items : List Work) (standing : Standing) → StandingFits moment items standing → StandingFits moment items (active_standing standing)
 activated_fits moment items Unbegun h = h
 activated_fits moment items Ready h = h
 activated_fits moment items Inactive h = h
@@ -98,7 +102,7 @@ activated_fits moment items (Waits kept) h = h
 activated_fits moment items Over h = h
 
 -- the next slot is the least
-none_later : (places : List Place) (p at : ℕ) → next_moment places ≡ None → get_or places p Over ≡ Later at → ⊥
+none_later : (places : List Standing) (p at : ℕ) → next_moment places ≡ None → get_or places p Over ≡ Later at → ⊥
 none_later [] p at h g = cc
 none_later (Unbegun ∷ places) zero at h g = cc
 none_later (Ready ∷ places) zero at h g = cc
@@ -117,13 +121,13 @@ none_later (Later k ∷ places) p at h g = of_rest (next_moment places) h
     of_rest (Some j) i = cc
 
 same_later : (k at : ℕ) → Later k ≡ Later at → k ≡ at
-same_later k at h = ap (λ place. moment_of place) h
+same_later k at h = ap (λ standing. moment_of standing) h
   where
-    moment_of : Place → ℕ
+    moment_of : Standing → ℕ
     moment_of (Later m) = m
     moment_of _ = 0
 
-least : (places : List Place) (m p at : ℕ) → next_moment places ≡ Some m → get_or places p Over ≡ Later at → m ≤ at
+least : (places : List Standing) (m p at : ℕ) → next_moment places ≡ Some m → get_or places p Over ≡ Later at → m ≤ at
 least [] m p at h g = absurd (none_later [] p at refl g)
 least (Unbegun ∷ places) m zero at h g = absurd (none_later (Unbegun ∷ []) zero at refl g)
 least (Ready ∷ places) m zero at h g = absurd (none_later (Ready ∷ []) zero at refl g)
@@ -150,7 +154,7 @@ least (Later k ∷ places) m (suc p) at h g =
         let low = rest j r in
         omega (arith, e, low)
 
-arrived_fits : (before m : ℕ) (items : List Item) (place : Place) → ((at : ℕ) → place ≡ Later at → m ≤ at) → PlaceFits before items place → PlaceFits m items (arrived m place)
+arrived_fits : (before m : ℕ) (items : List Work) (standing : Standing) → ((at : ℕ) → standing ≡ Later at → m ≤ at) → StandingFits before items standing → StandingFits m items (standing_in_slot m standing)
 arrived_fits before m items Unbegun low h = h
 arrived_fits before m items Ready low h = h
 arrived_fits before m items Inactive low h = h
@@ -158,83 +162,89 @@ arrived_fits before m items (Waits kept) low h = h
 arrived_fits before m items Over low h = h
 arrived_fits before m items (Later at) low h = of_test (at == m) refl
   where
-    of_test : (is : Bool) → (at == m) ≡ is → PlaceFits m items (if is then Ready else Later at)
+    of_test : (is : Bool) → (at == m) ≡ is → StandingFits m items (if is then Ready else Later at)
     of_test true e = h.0
     of_test false e =
         let far = low at refl in
         let differs : at ≡ m → ⊥ = λ q. true_not (sym e ∙ eq-eqb at m q) in
-        (h.0, elim (cases_lt m at) [ inl below ↦ below | inr above ↦ absurd (differs (omega (arith, far, above))) ])
+        (h.0, (elim (cases_lt m at) [ inl below ↦ below | inr above ↦ absurd (differs (omega (arith, far, above))) ], h.1.1))
 
 activate_fits : (d : Design) (s : MachineState) → IsStateOf d s → IsStateOf d (activate s)
 activate_fits d s is = record {
+  moment = is.moment;
   vars = is.vars;
   nets = is.nets;
   slots = is.slots;
-  places = length-map s.places activated ∙ is.places;
-  items = is.items;
+  standings = length-map s.standings active_standing ∙ is.standings;
+  work = is.work;
   locals = is.locals;
   locals_filled = is.locals_filled;
   fresh = is.fresh;
   evaluations = is.evaluations;
   resolutions = is.resolutions;
-  procs = λ p proc at. let x = is.procs p proc at in record { items = x.items; place = subst (λ (place : Place). PlaceFits s.moment (items_at s p) place) (sym (place_mapped activated refl s.places p)) (activated_fits s.moment (items_at s p) (place_at s p) x.place); inside = x.inside; called = x.called };
+  procs = λ p proc at. let x = is.procs p proc at in record { work = x.work; standing = subst (λ (standing : Standing). StandingFits s.moment (work_at s p) standing) (sym (place_mapped active_standing refl s.standings p)) (activated_fits s.moment (work_at s p) (standing_at s p) x.standing) };
   nonblocking = is.nonblocking;
   moved = is.moved;
 }
 
 updates_fit : (d : Design) (s : MachineState) → IsStateOf d s → IsStateOf d (move_updates s)
 updates_fit d s is = record {
+  moment = is.moment;
   vars = is.vars;
   nets = is.nets;
   slots = is.slots;
-  places = is.places;
-  items = is.items;
+  standings = is.standings;
+  work = is.work;
   locals = is.locals;
   locals_filled = is.locals_filled;
   fresh = is.fresh;
   evaluations = is.evaluations;
   resolutions = is.resolutions;
-  procs = λ p proc at. let x = is.procs p proc at in record { items = x.items; place = x.place; inside = x.inside; called = x.called };
+  procs = λ p proc at. let x = is.procs p proc at in record { work = x.work; standing = x.standing };
   nonblocking = λ k put low. absurd (omega (arith, low));
   moved = is.nonblocking;
 }
 
-slot_fits : (d : Design) (s : MachineState) (m : ℕ) → IsStateOf d s → next_moment s.places ≡ Some m → IsStateOf d (begin_slot m s)
-slot_fits d s m is next = record {
+slot_fits : (d : Design) (s : MachineState) (m : ℕ) → m ≤ 2 ^ 48 → IsStateOf d s → next_moment s.standings ≡ Some m → IsStateOf d (begin_slot m s)
+slot_fits d s m few is next = record {
+  moment = few;
   vars = is.vars;
   nets = is.nets;
   slots = is.slots;
-  places = length-map s.places (arrived m) ∙ is.places;
-  items = is.items;
+  standings = length-map s.standings (standing_in_slot m) ∙ is.standings;
+  work = is.work;
   locals = is.locals;
   locals_filled = is.locals_filled;
   fresh = is.fresh;
   evaluations = is.evaluations;
   resolutions = is.resolutions;
-  procs = λ p proc at. let x = is.procs p proc at in record { items = x.items; place = subst (λ (place : Place). PlaceFits m (items_at s p) place) (sym (place_mapped (arrived m) refl s.places p)) (arrived_fits s.moment m (items_at s p) (place_at s p) (λ k there. least s.places m p k next there) x.place); inside = x.inside; called = x.called };
+  procs = λ p proc at. let x = is.procs p proc at in record { work = x.work; standing = subst (λ (standing : Standing). StandingFits m (work_at s p) standing) (sym (place_mapped (standing_in_slot m) refl s.standings p)) (arrived_fits s.moment m (work_at s p) (standing_at s p) (λ k there. least s.standings m p k next there) x.standing) };
   nonblocking = is.nonblocking;
   moved = is.moved;
 }
 
 pub move_keeps : MoveKeeps
-move_keeps until d s t design is calm h = of_inactive (has_inactive s) h
+move_keeps until d s t most design is calm h = of_inactive (has_inactive s) h
   where
-    of_limit : (m : ℕ) → next_moment s.places ≡ Some m → (may : Bool) → (if may then Some (begin_slot m s) else None) ≡ Some t → IsStateOf d t
-    of_limit m at false g = absurd (none_some t g)
-    of_limit m at true g = subst (IsStateOf d) (same_Some (begin_slot m s) t g) (slot_fits d s m is at)
+    within : (m : ℕ) → nat_le m until ≡ true → m ≤ 2 ^ 48
+    within m h = let low : m ≤ until = grind (arith, nat_tests) in omega (arith, low, most)
 
-    of_next : (o : Option ℕ) → next_moment s.places ≡ o → begin_next until s o ≡ Some t → IsStateOf d t
+    of_limit : (m : ℕ) → next_moment s.standings ≡ Some m → (may : Bool) → nat_le m until ≡ may → (if may then Some (begin_slot m s) else None) ≡ Some t → IsStateOf d t
+    of_limit m at false may g = absurd (none_some t g)
+    of_limit m at true may g = subst (IsStateOf d) (same_Some (begin_slot m s) t g) (slot_fits d s m (within m may) is at)
+
+    of_next : (o : Option ℕ) → next_moment s.standings ≡ o → begin_next until s o ≡ Some t → IsStateOf d t
     of_next None at g = absurd (none_some t g)
-    of_next (Some m) at g = of_limit m at (nat_le m until) g
+    of_next (Some m) at g = of_limit m at (nat_le m until) refl g
 
-    of_finish : (done : Bool) → (if done then None else begin_next until s (next_moment s.places)) ≡ Some t → IsStateOf d t
+    of_finish : (done : Bool) → (if done then None else begin_next until s (next_moment s.standings)) ≡ Some t → IsStateOf d t
     of_finish true g = absurd (none_some t g)
-    of_finish false g = of_next (next_moment s.places) refl g
+    of_finish false g = of_next (next_moment s.standings) refl g
 
-    of_updates : (some : Bool) → (if some then Some (move_updates s) else (if s.finished then None else begin_next until s (next_moment s.places))) ≡ Some t → IsStateOf d t
+    of_updates : (some : Bool) → (if some then Some (move_updates s) else (if s.finished then None else begin_next until s (next_moment s.standings))) ≡ Some t → IsStateOf d t
     of_updates true g = subst (IsStateOf d) (same_Some (move_updates s) t g) (updates_fit d s is)
     of_updates false g = of_finish s.finished g
 
-    of_inactive : (some : Bool) → (if some then Some (activate s) else (if is_some_put s.nonblocking then Some (move_updates s) else (if s.finished then None else begin_next until s (next_moment s.places)))) ≡ Some t → IsStateOf d t
+    of_inactive : (some : Bool) → (if some then Some (activate s) else (if is_some_put s.nonblocking then Some (move_updates s) else (if s.finished then None else begin_next until s (next_moment s.standings)))) ≡ Some t → IsStateOf d t
     of_inactive true g = subst (IsStateOf d) (same_Some (activate s) t g) (activate_fits d s is)
     of_inactive false g = of_updates (is_some_put s.nonblocking) g

@@ -25,10 +25,14 @@ use Rattle.nt_semantics.proofs.Sums.{here, sum, sum_is}
 use Rattle.nt_semantics.specs.Execution.{run, settle, is_active, IsComplete, expansion}
 use Rattle.nt_design.specs.Puts.{after_put, leaves_put}
 use Rattle.nt_semantics.specs.Same.{is_same}
-use Rattle.nt_semantics.specs.State.{Item, Do, Place, Ready, Later, Over, MachineState, start_state, world_of}
-use Rattle.nt_semantics.specs.Statements.{item_step}
-use Rattle.nt_semantics.specs.Step.{step, stepped, put_var, set_net}
-use Rattle.nt_semantics.specs.Wake.{wake, calls_of}
+use Rattle.nt_semantics.specs.State.{MachineState, start_state, world_of_state}
+use Rattle.nt_semantics.specs.declared.standing.Standing.{Standing}
+use Rattle.nt_semantics.specs.declared.standing.Standing.TheVariants.{Ready, Later, Over}
+use Rattle.nt_semantics.specs.declared.work.Work.{Work}
+use Rattle.nt_semantics.specs.declared.work.Work.TheVariants.{Do}
+use Rattle.nt_semantics.specs.Statements.{work_step}
+use Rattle.nt_semantics.specs.Step.{step, make_step, put_var, set_net}
+use Rattle.nt_semantics.specs.Wake.{wake, functions_of}
 use Rattle.nt_semantics.specs.declared.deed.Deed.TheVariants as deed
 use Rattle.nt_semantics.specs.declared.event.Event.{Event}
 use Rattle.nt_semantics.specs.declared.event.Event.TheVariants.{Stmt, Assign, Resolve}
@@ -62,14 +66,14 @@ two_drivers = record {
 }
 
 -- a state: the moment; the variable, the net and its two slots; the procedure; the counts
-abbrev pub state_of : ℕ → ℕ → ℕ → ℕ → ℕ → Place → List Item → Bool → ℕ → ℕ → ℕ → MachineState
-state_of moment s n first second place items fresh evals0 evals1 resolutions = record {
+abbrev pub state_of : ℕ → ℕ → ℕ → ℕ → ℕ → Standing → List Work → Bool → ℕ → ℕ → ℕ → MachineState
+state_of moment s n first second standing items fresh evals0 evals1 resolutions = record {
   moment = moment;
   vars = int_value s ∷ [];
   nets = int_value n ∷ [];
   slots = int_value first ∷ int_value second ∷ [];
-  places = place ∷ [];
-  items = items ∷ [];
+  standings = standing ∷ [];
+  work = items ∷ [];
   locals = [] ∷ [];
   fresh = fresh ∷ [];
   evaluations = evals0 ∷ evals1 ∷ [];
@@ -86,17 +90,17 @@ above_is calls world left =
     value_binary calls world Add reads_s (tree.Const (int_value 1)) [] left
     ∙ rw (value_read calls world (object.Var 0) [] left, value_const calls world (int_value 1) [] left) refl
 
-delay_is : (calls : Calls) (world : World) (locals : List Value) (left : ℕ) → item_step calls world (Do waits_one) [] locals left ≡ Some ((deed.Delays 1, Do sets_s ∷ []), left)
+delay_is : (calls : Calls) (world : World) (locals : List Value) (left : ℕ) → work_step calls world (Do waits_one) [] locals left ≡ Some ((deed.Delays 1, Do sets_s ∷ []), left)
 delay_is calls world locals left =
     step_delay calls world (tree.Const (int_value 1)) sets_s here [] locals left
     ∙ rw (value_const calls world (int_value 1) locals left, to_do_assign (target.Var 0 []) (tree.Const (int_value 1)) here) refl
 
-sets_is : (calls : Calls) (world : World) (locals : List Value) (left : ℕ) → item_step calls world (Do sets_s) [] locals left ≡ Some ((deed.Writes (leaves_put 0 0 (int_value 1)), []), left)
+sets_is : (calls : Calls) (world : World) (locals : List Value) (left : ℕ) → work_step calls world (Do sets_s) [] locals left ≡ Some ((deed.Writes (leaves_put 0 0 (int_value 1)), []), left)
 sets_is calls world locals left =
     step_assign calls world (target.Var 0 []) (tree.Const (int_value 1)) here [] locals left
     ∙ rw (value_const calls world (int_value 1) locals left) refl
 
-sum_of : (a b : Value) → calls_of two_drivers 0 (a ∷ b ∷ []) most_turns ≡ Some (one (binary_of Add (only (one (binary_of Add (only (int_value 0)) (only a)))) (only b)), 65533)
+sum_of : (a b : Value) → functions_of two_drivers 0 (a ∷ b ∷ []) most_turns ≡ Some (one (binary_of Add (only (one (binary_of Add (only (int_value 0)) (only a)))) (only b)), 65533)
 sum_of a b = sum_is [] 65535 65533 a b
 
 -- ---- slot 0
@@ -141,17 +145,17 @@ starts =
     ap (λ items. state_of 0 0 0 0 0 Ready items true 1 1 1) (to_do_delay (tree.Const (int_value 1)) sets_s here)
 
 pub step0 : step two_drivers m0 (Stmt 0) ≡ Some m1
-unfolding stepped put_var wake
+unfolding make_step put_var wake
 step0 =
-    proc_steps two_drivers m0 0 (Do waits_one) [] (deed.Delays 1, Do sets_s ∷ []) most_turns refl refl (delay_is (calls_of two_drivers) (world_of m0) [] most_turns)
+    proc_steps two_drivers m0 0 (Do waits_one) [] (deed.Delays 1, Do sets_s ∷ []) most_turns refl refl (delay_is (functions_of two_drivers) (world_of_state m0) [] most_turns)
 
 pub step1 : step two_drivers m1 (Assign 0) ≡ Some m2
 unfolding step is_same
-step1 = rw (value_read (calls_of two_drivers) (world_of m1) (object.Var 0) [] most_turns) refl
+step1 = rw (value_read (functions_of two_drivers) (world_of_state m1) (object.Var 0) [] most_turns) refl
 
 pub step2 : step two_drivers m2 (Assign 1) ≡ Some m3
 unfolding step is_same
-step2 = rw (above_is (calls_of two_drivers) (world_of m2) most_turns) refl
+step2 = rw (above_is (functions_of two_drivers) (world_of_state m2) most_turns) refl
 
 pub step3 : step two_drivers m3 (Resolve 0 (0 ∷ 1 ∷ [])) ≡ Some m4
 unfolding step set_net wake is_same
@@ -163,17 +167,17 @@ step4 = rw (sum_of (int_value 0) (int_value 1)) refl
 
 -- ---- slot 1
 pub step5 : step two_drivers m6 (Stmt 0) ≡ Some m7
-unfolding stepped put_var wake after_put is_same
+unfolding make_step put_var wake after_put is_same
 step5 =
-    proc_steps two_drivers m6 0 (Do sets_s) [] (deed.Writes (leaves_put 0 0 (int_value 1)), []) most_turns refl refl (sets_is (calls_of two_drivers) (world_of m6) [] most_turns)
+    proc_steps two_drivers m6 0 (Do sets_s) [] (deed.Writes (leaves_put 0 0 (int_value 1)), []) most_turns refl refl (sets_is (functions_of two_drivers) (world_of_state m6) [] most_turns)
 
 pub step6 : step two_drivers m7 (Assign 0) ≡ Some m8
 unfolding step is_same
-step6 = rw (value_read (calls_of two_drivers) (world_of m7) (object.Var 0) [] most_turns) refl
+step6 = rw (value_read (functions_of two_drivers) (world_of_state m7) (object.Var 0) [] most_turns) refl
 
 pub step7 : step two_drivers m8 (Assign 1) ≡ Some m9
 unfolding step is_same
-step7 = rw (above_is (calls_of two_drivers) (world_of m8) most_turns) refl
+step7 = rw (above_is (functions_of two_drivers) (world_of_state m8) most_turns) refl
 
 pub step8 : step two_drivers m9 (Resolve 0 (0 ∷ 1 ∷ [])) ≡ Some m10
 unfolding step set_net wake is_same

@@ -6,7 +6,8 @@ use Rattle.std.proofs.lemmas.Grind.{flat_map-append}
 use Rattle.nt_design.specs.declared.design.Design.{Design}
 use Rattle.nt_semantics.specs.Execution.{steps, copies, expansion, enter, is_entry, if_some}
 use Rattle.nt_semantics.specs.Laws.{RoundLeads}
-use Rattle.nt_semantics.specs.Rounds.{Process, PhaseEnd, Resolved, TooLong, phase, quantum, evaluate, resolve, resolve_after, round, entry_of, marks_of, and_before, next_ready, put_after, stops, net_entry, with_woken, woken, and_then_resolved}
+use Rattle.nt_semantics.specs.Rounds.{Away, PhaseEnd, ResolveEnd, TooLong, phase, quantum, evaluate, resolve_nets, resolve_after, round, entry_of, marks_of, and_before, next_ready, away_after, stops, net_entry, with_woken, woken, with_entry}
+use Rattle.nt_semantics.specs.declared.process.Process.{Process}
 use Rattle.nt_semantics.specs.State.{MachineState, count_at}
 use Rattle.nt_semantics.specs.Step.{step, only_if}
 use Rattle.nt_semantics.specs.declared.event.Event.{Event}
@@ -47,49 +48,49 @@ entries_then d s t u es fs first rest =
 abbrev PhaseLeads : Design → MachineState → PhaseEnd → Type 0
 PhaseLeads d s e = steps d (expansion e.entries) s ≡ Some e.state
 
-phase_leads : (n : ℕ) (d : Design) (s : MachineState) (xs : List Process) (puts : List ℕ) → PhaseLeads d s (phase n d s xs puts)
+phase_leads : (n : ℕ) (d : Design) (s : MachineState) (xs : List Process) (away : Away) → PhaseLeads d s (phase n d s xs away)
 unfolding phase
-phase_leads n d s [] puts = refl
-phase_leads zero d s (x ∷ xs) puts = refl
-phase_leads (suc n) d s (x ∷ xs) puts =
+phase_leads n d s [] away = refl
+phase_leads zero d s (x ∷ xs) away = refl
+phase_leads (suc n) d s (x ∷ xs) away =
     of_entry (λ t ys new. phase_leads n d t ys new) (enter d s (entry_of d s x)) refl
   where
-    of_entry : ((t : MachineState) (ys : List Process) (new : List ℕ) → PhaseLeads d t (phase n d t ys new)) → (o : Option MachineState) → enter d s (entry_of d s x) ≡ o → PhaseLeads d s (if_some (stops s (x ∷ xs) puts (TooLong (entry_of d s x).event)) (λ t. and_before (entry_of d s x) (marks_of d s t x) (phase n d t (next_ready d s t x xs) (put_after t x puts))) o)
+    of_entry : ((t : MachineState) (ys : List Process) (new : Away) → PhaseLeads d t (phase n d t ys new)) → (o : Option MachineState) → enter d s (entry_of d s x) ≡ o → PhaseLeads d s (if_some (stops s (x ∷ xs) away (TooLong (entry_of d s x).event)) (λ t. and_before (entry_of d s x) (marks_of d s t x) (phase n d t (next_ready d s t x xs) (away_after t x away))) o)
     of_entry leads None h = refl
     of_entry leads (Some t) h =
-        entry_then d s t (phase n d t (next_ready d s t x xs) (put_after t x puts)).state (entry_of d s x) (phase n d t (next_ready d s t x xs) (put_after t x puts)).entries h (leads t (next_ready d s t x xs) (put_after t x puts))
+        entry_then d s t (phase n d t (next_ready d s t x xs) (away_after t x away)).state (entry_of d s x) (phase n d t (next_ready d s t x xs) (away_after t x away)).entries h (leads t (next_ready d s t x xs) (away_after t x away))
 
 -- ---- phase Evaluate
-evaluate_leads : (d : Design) (s : MachineState) (xss : List (List Process)) (puts : List ℕ) → steps d (expansion (evaluate d s xss puts).entries) s ≡ Some (evaluate d s xss puts).state
-evaluate_leads d s [] puts = refl
-evaluate_leads d s (xs ∷ xss) puts =
-    let e = phase quantum d s xs puts in
-    let r = evaluate d e.state xss e.puts in
-    entries_then d s e.state r.state e.entries r.entries (phase_leads quantum d s xs puts) (evaluate_leads d e.state xss e.puts)
+evaluate_leads : (d : Design) (s : MachineState) (xss : List (List Process)) (away : Away) → steps d (expansion (evaluate d s xss away).entries) s ≡ Some (evaluate d s xss away).state
+evaluate_leads d s [] away = refl
+evaluate_leads d s (xs ∷ xss) away =
+    let e = phase quantum d s xs away in
+    let r = evaluate d e.state xss e.away in
+    entries_then d s e.state r.state e.entries r.entries (phase_leads quantum d s xs away) (evaluate_leads d e.state xss e.away)
 
 -- ---- phase Resolve
-abbrev ResolveLeads : Design → MachineState → Resolved → Type 0
+abbrev ResolveLeads : Design → MachineState → ResolveEnd → Type 0
 ResolveLeads d s r = steps d (expansion r.entries) s ≡ Some r.state
 
-abbrev stopped : ℕ → List ℕ → MachineState → List (List Process) → Resolved
+abbrev stopped : ℕ → List ℕ → MachineState → List (List Process) → ResolveEnd
 stopped n order s ready = record { state = s; ready = ready; entries = []; too_long = Some (Resolve n order) }
 
-abbrev goes_on : Design → List (List Process) → (ℕ → List ℕ) → ℕ → List ℕ → MachineState → List (List Process) → MachineState → Resolved
+abbrev goes_on : Design → List (List Process) → (ℕ → List ℕ) → ℕ → List ℕ → MachineState → List (List Process) → MachineState → ResolveEnd
 goes_on d groups orders n nets s ready t =
-    and_then_resolved (net_entry s n (orders n)) (resolve d groups orders nets t (with_woken groups (woken d s t) ready))
+    with_entry (net_entry s n (orders n)) (resolve_nets d groups orders nets t (with_woken groups (woken d s t) ready))
 
-resolve_leads : (d : Design) (groups : List (List Process)) (orders : ℕ → List ℕ) (nets : List ℕ) (s : MachineState) (ready : List (List Process)) → ResolveLeads d s (resolve d groups orders nets s ready)
+resolve_leads : (d : Design) (groups : List (List Process)) (orders : ℕ → List ℕ) (nets : List ℕ) (s : MachineState) (ready : List (List Process)) → ResolveLeads d s (resolve_nets d groups orders nets s ready)
 resolve_leads d groups orders [] s ready = refl
 resolve_leads d groups orders (n ∷ nets) s ready =
     of_count (λ t more. resolve_leads d groups orders nets t more) (count_at s.resolutions n == 0)
   where
-    of_entry : ((t : MachineState) (more : List (List Process)) → ResolveLeads d t (resolve d groups orders nets t more)) → (o : Option MachineState) → enter d s (net_entry s n (orders n)) ≡ o → ResolveLeads d s (if_some (stopped n (orders n) s ready) (goes_on d groups orders n nets s ready) o)
+    of_entry : ((t : MachineState) (more : List (List Process)) → ResolveLeads d t (resolve_nets d groups orders nets t more)) → (o : Option MachineState) → enter d s (net_entry s n (orders n)) ≡ o → ResolveLeads d s (if_some (stopped n (orders n) s ready) (goes_on d groups orders n nets s ready) o)
     of_entry leads None h = refl
     of_entry leads (Some t) h =
-        let r = resolve d groups orders nets t (with_woken groups (woken d s t) ready) in
+        let r = resolve_nets d groups orders nets t (with_woken groups (woken d s t) ready) in
         entry_then d s t r.state (net_entry s n (orders n)) r.entries h (leads t (with_woken groups (woken d s t) ready))
 
-    of_count : ((t : MachineState) (more : List (List Process)) → ResolveLeads d t (resolve d groups orders nets t more)) → (is : Bool) → ResolveLeads d s (if is then resolve d groups orders nets s ready else if_some (stopped n (orders n) s ready) (goes_on d groups orders n nets s ready) (enter d s (net_entry s n (orders n))))
+    of_count : ((t : MachineState) (more : List (List Process)) → ResolveLeads d t (resolve_nets d groups orders nets t more)) → (is : Bool) → ResolveLeads d s (if is then resolve_nets d groups orders nets s ready else if_some (stopped n (orders n) s ready) (goes_on d groups orders n nets s ready) (enter d s (net_entry s n (orders n))))
     of_count leads true = leads s ready
     of_count leads false = of_entry leads (enter d s (net_entry s n (orders n))) refl
 
@@ -97,6 +98,6 @@ resolve_leads d groups orders (n ∷ nets) s ready =
 pub round_leads : RoundLeads
 unfolding round
 round_leads d groups orders r =
-    let e = evaluate d r.state r.ready r.puts in
+    let e = evaluate d r.state r.ready r.away in
     let p = resolve_after d groups orders e in
-    entries_then d r.state e.state p.state e.entries p.entries (evaluate_leads d r.state r.ready r.puts) (resolve_leads d groups orders (if is_some e.too_long then [] else range_with_len 0 (length d.nets)) e.state e.ready)
+    entries_then d r.state e.state p.state e.entries p.entries (evaluate_leads d r.state r.ready r.away) (resolve_leads d groups orders (if is_some e.too_long then [] else range_with_len 0 (length d.nets)) e.state e.ready)

@@ -161,51 +161,54 @@ put_of_fits d v old path value r below h k is =
 -- ---- states with other values
 vars_keep : (d : Design) (s : MachineState) (vars : List Value) → IsStateOf d s → AreValuesOf (var_shapes d) vars → IsStateOf d (record s { vars = vars })
 vars_keep d s vars of same = record {
+  moment = of.moment;
   vars = same;
   nets = of.nets;
   slots = of.slots;
-  places = of.places;
-  items = of.items;
+  standings = of.standings;
+  work = of.work;
   locals = of.locals;
   locals_filled = of.locals_filled;
   fresh = of.fresh;
   evaluations = of.evaluations;
   resolutions = of.resolutions;
-  procs = λ p proc at. let x = of.procs p proc at in record { items = x.items; place = x.place; inside = x.inside; called = x.called };
+  procs = λ p proc at. let x = of.procs p proc at in record { work = x.work; standing = x.standing };
   nonblocking = of.nonblocking;
   moved = of.moved;
 }
 
 nets_keep : (d : Design) (s : MachineState) (nets : List Value) → IsStateOf d s → AreValuesOf (net_shapes d) nets → IsStateOf d (record s { nets = nets })
 nets_keep d s nets of same = record {
+  moment = of.moment;
   vars = of.vars;
   nets = same;
   slots = of.slots;
-  places = of.places;
-  items = of.items;
+  standings = of.standings;
+  work = of.work;
   locals = of.locals;
   locals_filled = of.locals_filled;
   fresh = of.fresh;
   evaluations = of.evaluations;
   resolutions = of.resolutions;
-  procs = λ p proc at. let x = of.procs p proc at in record { items = x.items; place = x.place; inside = x.inside; called = x.called };
+  procs = λ p proc at. let x = of.procs p proc at in record { work = x.work; standing = x.standing };
   nonblocking = of.nonblocking;
   moved = of.moved;
 }
 
 moved_keep : (d : Design) (s : MachineState) (puts : List Put) → IsStateOf d s → All (PutFits d) puts → IsStateOf d (record s { moved = puts })
 moved_keep d s puts of fit = record {
+  moment = of.moment;
   vars = of.vars;
   nets = of.nets;
   slots = of.slots;
-  places = of.places;
-  items = of.items;
+  standings = of.standings;
+  work = of.work;
   locals = of.locals;
   locals_filled = of.locals_filled;
   fresh = of.fresh;
   evaluations = of.evaluations;
   resolutions = of.resolutions;
-  procs = λ p proc at. let x = of.procs p proc at in record { items = x.items; place = x.place; inside = x.inside; called = x.called };
+  procs = λ p proc at. let x = of.procs p proc at in record { work = x.work; standing = x.standing };
   nonblocking = of.nonblocking;
   moved = fit;
 }

@@ -1,6 +1,6 @@
 -- Moves between regions and slots, whole executions, and the lists of entries that stand for them (IEEE 1800-2017, 4.4,
 -- 4.5).
-use Rattle.std.specs.Prelude.{◌≡◌, ℕ, ◌==◌, nat_lt, nat_le, min, Bool, true, false, not, ◌&&◌, ◌||◌, if◌then◌else◌, List, [], ◌∷◌, ◌++◌, map, get_or, replicate, Option, Some, None, option_and_then, unwrap_or, All}
+use Rattle.std.specs.Prelude.{◌≡◌, ℕ, ◌+◌, ◌≤◌, ◌==◌, nat_lt, nat_le, min, Bool, true, false, not, ◌&&◌, ◌||◌, if◌then◌else◌, List, [], ◌∷◌, ◌++◌, map, get_or, replicate, Option, Some, None, option_and_then, unwrap_or, All}
 use Rattle.std.specs.List.{flat_map, list_any}
 use Rattle.nt_design.specs.Parts.{Value}
 use Rattle.nt_design.specs.Reads.{reads_of}
@@ -10,8 +10,10 @@ use Rattle.nt_design.specs.declared.process.Assign.{Assign}
 use Rattle.nt_design.specs.declared.target.Target.{Target}
 use Rattle.nt_design.specs.declared.target.Target.TheVariants as target
 use Rattle.nt_semantics.specs.Same.{is_one_of}
-use Rattle.nt_semantics.specs.State.{Place, Ready, Inactive, Later, MachineState, start_state}
-use Rattle.nt_semantics.specs.Step.{step, only_if, is_pending_at, is_some_put}
+use Rattle.nt_semantics.specs.State.{MachineState, start_state}
+use Rattle.nt_semantics.specs.declared.standing.Standing.{Standing}
+use Rattle.nt_semantics.specs.declared.standing.Standing.TheVariants.{Ready, Inactive, Later}
+use Rattle.nt_semantics.specs.Step.{step, only_if, is_pending, is_pending_at, is_some_put, copies_of}
 use Rattle.nt_semantics.specs.declared.event.Event.{Event}
 use Rattle.nt_semantics.specs.declared.event.Event.TheVariants.{Stmt, Assign as AssignEvent, Update, Resolve}
 use Rattle.nt_semantics.specs.declared.event.Entry.{Entry}
@@ -22,16 +24,16 @@ use Rattle.nt_semantics.specs.declared.moved.Moved.TheVariants as moves
 -- whether an event is in Active. A moved update is
 unfoldable pub is_active : MachineState → Bool
 is_active s =
-    list_any (is_pending_at s) s.places
+    list_any (is_pending_at s) s.standings
     || (list_any (nat_lt 0) s.evaluations || (list_any (nat_lt 0) s.resolutions || is_some_put s.moved))
 
-abbrev pub is_inactive : Place → Bool
+abbrev pub is_inactive : Standing → Bool
 is_inactive Inactive = true
 is_inactive _ = false
 
 -- whether an event is in Inactive
 abbrev pub has_inactive : MachineState → Bool
-has_inactive s = list_any is_inactive s.places
+has_inactive s = list_any is_inactive s.standings
 
 -- whether the slot is over: no event is left in it (4.5)
 abbrev pub is_over : MachineState → Bool
@@ -39,35 +41,35 @@ is_over s = not (is_active s) && (not (has_inactive s) && not (is_some_put s.non
 
 -- ---- moves
 -- the Inactive events become active (4.4.2.3)
-abbrev pub activated : Place → Place
-activated Inactive = Ready
-activated place = place
+abbrev pub active_standing : Standing → Standing
+active_standing Inactive = Ready
+active_standing standing = standing
 
 abbrev pub activate : MachineState → MachineState
-activate s = record s { places = map activated s.places }
+activate s = record s { standings = map active_standing s.standings }
 
 -- the nonblocking updates become active, in the order in which their statements were executed (4.4.2.4, 10.4.2)
 abbrev pub move_updates : MachineState → MachineState
 move_updates s = record s { moved = s.nonblocking; nonblocking = [] }
 
 -- the least moment of those before and that of a place
-abbrev pub sooner : Place → Option ℕ → Option ℕ
+abbrev pub sooner : Standing → Option ℕ → Option ℕ
 sooner (Later at) None = Some at
 sooner (Later at) (Some moment) = Some (min at moment)
 sooner _ moment = moment
 
 -- the least later moment to which a procedure was delayed
-abbrev pub next_moment : List Place → Option ℕ
+abbrev pub next_moment : List Standing → Option ℕ
 next_moment [] = None
-next_moment (place ∷ places) = sooner place (next_moment places)
+next_moment (standing ∷ places) = sooner standing (next_moment places)
 
-abbrev pub arrived : ℕ → Place → Place
-arrived moment (Later at) = if at == moment then Ready else Later at
-arrived moment place = place
+abbrev pub standing_in_slot : ℕ → Standing → Standing
+standing_in_slot moment (Later at) = if at == moment then Ready else Later at
+standing_in_slot moment standing = standing
 
 -- a slot begins: its events are active, and no line is displayed in it yet (4.4)
 abbrev pub begin_slot : ℕ → MachineState → MachineState
-begin_slot moment s = record s { moment = moment; places = map (arrived moment) s.places; shown = [] }
+begin_slot moment s = record s { moment = moment; standings = map (standing_in_slot moment) s.standings; shown = [] }
 
 -- up to the time limit
 abbrev pub begin_next : ℕ → MachineState → Option ℕ → Option MachineState
@@ -82,7 +84,7 @@ move until s =
     then Some (activate s)
     else (if is_some_put s.nonblocking
     then Some (move_updates s)
-    else (if s.finished then None else begin_next until s (next_moment s.places)))
+    else (if s.finished then None else begin_next until s (next_moment s.standings)))
 
 -- a move where one is needed and there is one. After it an event is in Active
 unfoldable pub settle : ℕ → MachineState → MachineState
@@ -171,3 +173,35 @@ if_some other go (Some s) = go s
 abbrev pub ended : ℕ → Design → List Event → MachineState → List Observation
 ended until d [] s = seen s
 ended until d (e ∷ es) s = seen s ++ if_some [] (ended until d es) (step d (settle until s) e)
+
+-- the slots that a later one followed in the course of these events
+abbrev pub followed : ℕ → Design → List Event → MachineState → List Observation
+followed until d [] s = []
+followed until d (e ∷ es) s = seen s ++ if_some [] (followed until d es) (step d (settle until s) e)
+
+-- the event is in Active, and an evaluation in it takes too many turns
+abbrev pub IsTooLong : Design → MachineState → Event → Type 0
+IsTooLong d s e = (is_pending d s e ≡ true) × (step d s e ≡ None)
+
+-- ---- limits (own)
+-- how many entries a slot may have at the end of a round
+abbrev pub most_entries : ℕ
+most_entries = 1000000
+
+-- how many entries the slot has in which these entries end, where there were so many before them. An entry after a slot that
+-- is over is the first of the next one
+abbrev pub entries_in_slot : ℕ → Design → ℕ → List Entry → MachineState → ℕ
+entries_in_slot until d before [] s = before
+entries_in_slot until d before (entry ∷ entries) s =
+    if_some 0 (λ t. entries_in_slot until d (if is_over s then 1 else before + 1) entries t) (run until d (copies entry) s)
+
+-- what a run meets that goes no further: the slot has so many entries, or this is too long
+pub data Limit : Type 0 where
+  Entries : (count : ℕ) → Limit
+  Turns : (entry : Entry) → Limit
+
+-- the limit is met where these entries have led to this state
+abbrev pub IsMet : ℕ → Design → List Entry → MachineState → Limit → Type 0
+IsMet until d entries s (Entries count) =
+    (count ≡ entries_in_slot until d 0 entries (start_state d)) × (most_entries ≤ count)
+IsMet until d entries s (Turns entry) = IsTooLong d (settle until s) entry.event × (entry.count ≡ copies_of (settle until s) entry.event)

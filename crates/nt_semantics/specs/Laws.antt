@@ -1,14 +1,19 @@
 -- Laws of the definitions, each a statement for a function without a body to promise.
-use Rattle.std.specs.Prelude.{◌≡◌, ◌↔◌, ◌⊎◌, ◌<◌, ℕ, true, false, List, Some, None}
+use Rattle.std.specs.Prelude.{◌≡◌, ◌↔◌, ◌⊎◌, ◌<◌, ◌≤◌, ◌^◌, ◌++◌, ℕ, true, false, List, [], ◌∷◌, Some, None, All}
 use Rattle.std.specs.List.{range_with_len}
 use Rattle.std.specs.List.Sorted.{IsPermutation}
 use Rattle.nt_design.specs.WellFormed.{IsDesign}
 use Rattle.nt_design.specs.declared.design.Design.{Design}
-use Rattle.nt_semantics.specs.Execution.{Execution, is_active, is_over, move, may_repeat, steps, expansion}
-use Rattle.nt_semantics.specs.Rounds.{Process, RoundState, round}
-use Rattle.nt_semantics.specs.State.{MachineState, start_state, fewer}
+use Rattle.nt_semantics.specs.Execution.{Execution, is_active, is_over, move, may_repeat, steps, run, expansion, ended, followed, seen}
+use Rattle.nt_semantics.specs.ReadyLists.{IsOther, Listed, OneListed, RoundFits, Shows, is_live}
+use Rattle.nt_semantics.specs.Groups.{processes}
+use Rattle.nt_semantics.specs.Rounds.{Away, RoundState, phase, round}
+use Rattle.nt_semantics.specs.declared.process.Process.{Process}
+use Rattle.nt_semantics.specs.Slots.{Few}
+use Rattle.nt_semantics.specs.State.{MachineState, start_state, standing_at, fewer}
 use Rattle.nt_semantics.specs.StateFits.{IsStateOf}
 use Rattle.nt_semantics.specs.Step.{step, is_pending, is_order, copies_of}
+use Rattle.nt_semantics.specs.Texts.{IsWritten, witness_text}
 use Rattle.nt_semantics.specs.declared.event.Entry.{Entry}
 use Rattle.nt_semantics.specs.declared.event.Event.{Event}
 use Rattle.nt_semantics.specs.declared.event.Event.TheVariants.{Stmt, Assign as AssignEvent, Update, Resolve}
@@ -25,15 +30,15 @@ StartFits = (d : Design) → IsDesign d → IsStateOf d (start_state d)
 abbrev pub StepKeeps : Type 0
 StepKeeps = (d : Design) (s t : MachineState) (e : Event) → IsDesign d → IsStateOf d s → step d s e ≡ Some t → IsStateOf d t
 
--- a move keeps a state of a design
+-- a move up to a time limit of at most 2^48 keeps a state of a design
 abbrev pub MoveKeeps : Type 0
 MoveKeeps =
-    (until : ℕ) (d : Design) (s t : MachineState) → IsDesign d → IsStateOf d s → is_active s ≡ false → move until s ≡ Some t → IsStateOf d t
+    (until : ℕ) (d : Design) (s t : MachineState) → until ≤ 2 ^ 48 → IsDesign d → IsStateOf d s → is_active s ≡ false → move until s ≡ Some t → IsStateOf d t
 
--- an execution ends in a state of its design
+-- an execution up to a time limit of at most 2^48 ends in a state of its design
 abbrev pub ExecutionFits : Type 0
 ExecutionFits =
-    (until : ℕ) (d : Design) (entries : List Entry) (s : MachineState) → IsDesign d → Execution until d entries s → IsStateOf d s
+    (until : ℕ) (d : Design) (entries : List Entry) (s : MachineState) → until ≤ 2 ^ 48 → IsDesign d → Execution until d entries s → IsStateOf d s
 
 -- one move makes Active not empty, whether it stays in the slot or begins a later one
 abbrev pub MoveFills : Type 0
@@ -67,3 +72,45 @@ AgainChangesNothing =
 abbrev pub RoundLeads : Type 0
 RoundLeads =
     (d : Design) (groups : List (List Process)) (orders : ℕ → List ℕ) (r : RoundState) → steps d (expansion (round d groups orders r).entries) r.state ≡ Some (round d groups orders r).after.state
+
+-- a procedure that is ready or waiting after an event of another was so before
+abbrev pub OthersWakeTheWaiting : Type 0
+OthersWakeTheWaiting =
+    (d : Design) (s t : MachineState) (e : Event) (p : ℕ) → IsOther p e → step d s e ≡ Some t → is_live (standing_at t p) ≡ true → is_live (standing_at s p) ≡ true
+
+-- phase Evaluate of one group leaves a right list
+abbrev pub PhaseKeepsLists : Type 0
+PhaseKeepsLists =
+    (n : ℕ) (d : Design) (s : MachineState) (xs : List Process) (away : Away) → Listed d s xs → Listed d (phase n d s xs away).state (phase n d s xs away).ready
+
+-- a round with one group keeps its ready list right
+abbrev pub RoundKeepsLists : Type 0
+RoundKeepsLists =
+    (d : Design) (orders : ℕ → List ℕ) (r : RoundState) → OneListed d r.state r.ready → OneListed d (round d (processes d ∷ []) orders r).after.state (round d (processes d ∷ []) orders r).after.ready
+
+-- a round of a state with something in Active has an entry, or an event that is too long
+abbrev pub RoundShows : Type 0
+RoundShows =
+    (d : Design) (orders : ℕ → List ℕ) (r : RoundState) → RoundFits d r → is_active r.state ≡ true → Shows (round d (processes d ∷ []) orders r)
+
+-- ---- slots
+-- only a state with something in Active has a step
+abbrev pub OnlyActive : Type 0
+OnlyActive = (d : Design) (s t : MachineState) (e : Event) → step d s e ≡ Some t → is_active s ≡ true
+
+-- a slot that begins is at most at the time limit, and no event has more than one copy in it
+abbrev pub SlotsBeginSmall : Type 0
+SlotsBeginSmall =
+    (until : ℕ) (s t : MachineState) → is_over s ≡ true → move until s ≡ Some t → (t.moment ≤ until) × Few 1 t
+
+-- ---- what is seen
+-- the slots that have ended are those that a later one followed, and that of the last state where it is over
+abbrev pub EndedIsFollowed : Type 0
+EndedIsFollowed =
+    (until : ℕ) (d : Design) (es : List Event) (s t : MachineState) → run until d es s ≡ Some t → ended until d es s ≡ followed until d es s ++ seen t
+
+-- ---- texts
+-- a witness is the text of one list of entries
+abbrev pub WitnessIsOne : Type 0
+WitnessIsOne =
+    (es fs : List Entry) → All IsWritten es → All IsWritten fs → witness_text es ≡ witness_text fs → es ≡ fs

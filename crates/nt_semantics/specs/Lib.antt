@@ -1,8 +1,11 @@
 pub mod Execution
+pub mod Groups
 pub mod Laws
 pub mod Lines
+pub mod ReadyLists
 pub mod Rounds
 pub mod Same
+pub mod Slots
 pub mod State
 pub mod StateFits
 pub mod Statements

@@ -1,5 +1,5 @@
 -- The state of a simulation (IEEE 1800-2017, 4.3, 4.4).
-use Rattle.std.specs.Prelude.{ℕ, ◌+◌, ◌-◌, Bool, true, false, not, if◌then◌else◌, List, [], ◌∷◌, ◌++◌, length, map, replicate, get_or, slice_set, Option}
+use Rattle.std.specs.Prelude.{ℕ, ◌+◌, ◌-◌, Bool, true, false, not, if◌then◌else◌, List, [], ◌∷◌, ◌++◌, length, map, replicate, get_or, slice_set}
 use Rattle.std.specs.List.{range_with_len}
 use Rattle.nt_value.specs.Operators.{in_leaf}
 use Rattle.nt_value.specs.Values.{default_value}
@@ -16,30 +16,20 @@ use Rattle.nt_value.specs.declared.kind.ProcKind.TheVariants.{Initial, Always, C
 use Rattle.nt_design.specs.declared.object.Net.{Net}
 use Rattle.nt_design.specs.declared.object.NetKind.{NetKind}
 use Rattle.nt_design.specs.declared.object.NetKind.TheVariants.{Wire, Unresolved, Resolved}
-use Rattle.nt_design.specs.declared.object.Object.{Object}
 use Rattle.nt_design.specs.declared.object.Var.{Var}
 use Rattle.nt_design.specs.declared.process.Assign.{Assign}
 use Rattle.nt_design.specs.declared.process.Proc.{Proc}
 use Rattle.nt_design.specs.declared.target.Target.{Target}
 use Rattle.nt_design.specs.declared.target.Target.TheVariants as target
-use Rattle.nt_design.specs.declared.tree.Tree.{Tree}
 use Rattle.nt_design.specs.declared.put.Put.{Put}
+use Rattle.nt_semantics.specs.declared.standing.Standing.{Standing}
+use Rattle.nt_semantics.specs.declared.standing.Standing.TheVariants.{Unbegun, Ready, Waits, Over}
+use Rattle.nt_semantics.specs.declared.work.Work.{Work}
+use Rattle.nt_semantics.specs.declared.work.Work.TheVariants.{Do, Repeating, Awaiting}
 
 -- ---- what a procedure has to do
--- a statement to do, or a loop that goes on: `while` and `for` with their next test, `for` with its next step, `forever`,
--- `repeat` with how often it still goes on, `foreach` with how many indices are still to come; and at the end of an
--- `always_comb` the wait for a change of one of these objects, after which its body is done again (9.2.2.2)
-pub data Item : Type 0 where
-  Do : (s : Act) → Item
-  Testing : (test : Tree) → (step : Option Act) → (body : Act) → Item
-  Stepping : (test : Tree) → (step : Act) → (body : Act) → Item
-  Repeating : (body : Act) → Item
-  Counting : (count : ℕ) → (body : Act) → Item
-  Each : (left : ℕ) → (bounds : ℕ × ℕ) → (index : ℕ) → (body : Act) → Item
-  Awaiting : (reads : List Object) → (body : Act) → Item
-
 -- what the statements of a block have, each with the statement itself
-abbrev pub one_by_one : List (Act → List Item) → List Act → List Item
+abbrev pub one_by_one : List (Act → List Work) → List Act → List Work
 one_by_one [] acts = []
 one_by_one (items ∷ itemss) [] = []
 one_by_one (items ∷ itemss) (act ∷ acts) = items act ++ one_by_one itemss acts
@@ -50,28 +40,17 @@ in_block (Act-F.Block acts at) = acts
 in_block _ = []
 
 -- a nonempty block is its statements; an empty one is a null statement (9.3.1)
-abbrev pub unfolded : Act-F (Act → List Item) → Act → List Item
+abbrev pub unfolded : Act-F (Act → List Work) → Act → List Work
 unfolded (Act-F.Block (items ∷ itemss) at) act = one_by_one (items ∷ itemss) (in_block (out-Act act))
 unfolded _ act = Do act ∷ []
 
 -- a statement as what is to do: blocks unfold without an event
-unfoldable pub to_do : Act → List Item
-to_do act = fold-Act (Act → List Item) unfolded act act
+unfoldable pub to_do : Act → List Work
+to_do act = fold-Act (Act → List Work) unfolded act act
 
 -- ---- where a procedure is
--- Unbegun: an `always_comb` before its first step. Ready: its next step is in Active. Inactive: it is in the Inactive
--- region. Later: it is in the slot of a later moment. Waits: for a change, with the values that its event expressions had
--- when last seen. Over: it has nothing to do.
-pub data Place : Type 0 where
-  Unbegun : Place
-  Ready : Place
-  Inactive : Place
-  Later : (at : ℕ) → Place
-  Waits : (kept : List Value) → Place
-  Over : Place
-
 -- where a procedure is that goes on with this
-abbrev pub going_on : List Item → Place
+abbrev pub going_on : List Work → Standing
 going_on [] = Over
 going_on (Awaiting reads body ∷ items) = Waits []
 going_on (_ ∷ items) = Ready
@@ -87,8 +66,8 @@ pub record MachineState : Type 0 where
   pub slots : List Value
   -- of each procedure: where it is, what it has to do, its loop variables, and whether it has still to do its first step
   -- before an `always_comb` may begin
-  pub places : List Place
-  pub items : List (List Item)
+  pub standings : List Standing
+  pub work : List (List Work)
   pub locals : List (List Value)
   pub fresh : List Bool
   -- how many evaluations of each assignment and how many resolutions of each net are in Active
@@ -108,11 +87,11 @@ count_at counts i = get_or counts i 0
 abbrev pub value_at : List Value → ℕ → Value
 value_at values i = get_or values i []
 
-abbrev pub place_at : MachineState → ℕ → Place
-place_at s p = get_or s.places p Over
+abbrev pub standing_at : MachineState → ℕ → Standing
+standing_at s p = get_or s.standings p Over
 
-abbrev pub items_at : MachineState → ℕ → List Item
-items_at s p = get_or s.items p []
+abbrev pub work_at : MachineState → ℕ → List Work
+work_at s p = get_or s.work p []
 
 abbrev pub locals_at : MachineState → ℕ → List Value
 locals_at s p = get_or s.locals p []
@@ -135,8 +114,8 @@ abbrev pub each_below : {A : Type 0} → ℕ → (ℕ → A) → List A
 each_below n at = map at (range_with_len 0 n)
 
 -- what expressions read in a state
-abbrev pub world_of : MachineState → World
-world_of s = record { time = s.moment; nets = s.nets; vars = s.vars; many = []; element = [] }
+abbrev pub world_of_state : MachineState → World
+world_of_state s = record { time = s.moment; nets = s.nets; vars = s.vars; many = []; element = [] }
 
 -- ---- the start
 -- z in each digit
@@ -165,11 +144,11 @@ is_comb Always = false
 is_comb Ff = false
 
 -- `always s` is `forever s` (9.2.2.1), and an `always_comb` waits after its body (9.2.2.2)
-abbrev pub start_items : ProcKind → Proc → List Item
-start_items Initial p = to_do p.body
-start_items Always p = Repeating p.body ∷ []
-start_items Ff p = Repeating p.body ∷ []
-start_items Comb p = to_do p.body ++ Awaiting p.reads p.body ∷ []
+abbrev pub start_work : ProcKind → Proc → List Work
+start_work Initial p = to_do p.body
+start_work Always p = Repeating p.body ∷ []
+start_work Ff p = Repeating p.body ∷ []
+start_work Comb p = to_do p.body ++ Awaiting p.reads p.body ∷ []
 
 -- Before any event each variable has its start value (6.8, 10.5). At the start each procedure but an `always_comb` is
 -- ready (9.2), each assignment is to be evaluated once (10.3) and each net resolved once (6.6.7).
@@ -179,8 +158,8 @@ start_state d = record {
   vars = map (λ (var : Var). var.start) d.vars;
   nets = start_nets d;
   slots = map (λ (assign : Assign). slot_start d assign.target) d.assigns;
-  places = map (λ (p : Proc). if is_comb p.kind then Unbegun else Ready) d.procs;
-  items = map (λ (p : Proc). start_items p.kind p) d.procs;
+  standings = map (λ (p : Proc). if is_comb p.kind then Unbegun else Ready) d.procs;
+  work = map (λ (p : Proc). start_work p.kind p) d.procs;
   locals = map (λ (p : Proc). map default_value p.locals) d.procs;
   fresh = map (λ (p : Proc). not (is_comb p.kind)) d.procs;
   evaluations = replicate (length d.assigns) 1;

@@ -18,9 +18,12 @@ use Rattle.nt_design.specs.declared.target.Target.{Target}
 use Rattle.nt_design.specs.declared.target.Target.TheVariants as target
 use Rattle.nt_design.specs.Puts.{after_put, leaves_put}
 use Rattle.nt_semantics.specs.Same.{is_same, is_listed}
-use Rattle.nt_semantics.specs.State.{Item, Place, Unbegun, Ready, Inactive, Later, Waits, Over, MachineState, going_on, place_at, items_at, locals_at, count_at, value_at, net_shape, more, fewer, world_of, z_value}
-use Rattle.nt_semantics.specs.Statements.{item_step}
-use Rattle.nt_semantics.specs.Wake.{wake, calls_of}
+use Rattle.nt_semantics.specs.State.{MachineState, going_on, standing_at, work_at, locals_at, count_at, value_at, net_shape, more, fewer, world_of_state, z_value}
+use Rattle.nt_semantics.specs.declared.standing.Standing.{Standing}
+use Rattle.nt_semantics.specs.declared.standing.Standing.TheVariants.{Unbegun, Ready, Inactive, Later, Waits, Over}
+use Rattle.nt_semantics.specs.declared.work.Work.{Work}
+use Rattle.nt_semantics.specs.Statements.{work_step}
+use Rattle.nt_semantics.specs.Wake.{wake, functions_of}
 use Rattle.nt_design.specs.declared.put.Put.{Put}
 use Rattle.nt_semantics.specs.declared.deed.Deed.{Deed}
 use Rattle.nt_semantics.specs.declared.deed.Deed.TheVariants as deed
@@ -56,7 +59,7 @@ abbrev pub may_begin : MachineState → Bool
 may_begin s = not (list_any (λ fresh. fresh) s.fresh)
 
 -- a procedure that is here has a step in Active
-abbrev pub is_pending_at : MachineState → Place → Bool
+abbrev pub is_pending_at : MachineState → Standing → Bool
 is_pending_at s Unbegun = may_begin s
 is_pending_at s Ready = true
 is_pending_at s Inactive = false
@@ -66,49 +69,49 @@ is_pending_at s Over = false
 
 -- where a procedure is after a deed: a delay of 0 leads into the Inactive region (4.4.2.3), and one of more into a later
 -- slot (9.4.1)
-abbrev pub placed : ℕ → Deed → List Item → Place
-placed moment (deed.Delays zero) items = Inactive
-placed moment (deed.Delays (suc n)) items = Later (moment + suc n)
-placed moment (deed.Waits kept) items = Waits kept
-placed moment _ items = going_on items
+abbrev pub standing_after_deed : ℕ → Deed → List Work → Standing
+standing_after_deed moment (deed.Delays zero) items = Inactive
+standing_after_deed moment (deed.Delays (suc n)) items = Later (moment + suc n)
+standing_after_deed moment (deed.Waits kept) items = Waits kept
+standing_after_deed moment _ items = going_on items
 
 abbrev pub locals_after : Deed → List Value → List Value
 locals_after (deed.SetsLocal i value) locals = slice_set locals i value
 locals_after _ locals = locals
 
-abbrev pub scheduled : Deed → List Put
-scheduled (deed.Schedules put) = put ∷ []
-scheduled _ = []
+abbrev pub updates_of : Deed → List Put
+updates_of (deed.Schedules put) = put ∷ []
+updates_of _ = []
 
-abbrev pub displayed : ℕ → Deed → List (ℕ × List ℕ)
-displayed p (deed.Displays line) = (p, line) ∷ []
-displayed p _ = []
+abbrev pub lines_shown : ℕ → Deed → List (ℕ × List ℕ)
+lines_shown p (deed.Displays line) = (p, line) ∷ []
+lines_shown p _ = []
 
 abbrev pub finishes : Deed → Bool
 finishes deed.Finishes = true
 finishes _ = false
 
 -- a blocking assignment writes at once (10.4.1)
-abbrev pub performed : Design → Deed → MachineState → MachineState
-performed d (deed.Writes put) s = put_var d put s
-performed d _ s = s
+abbrev pub do_deed : Design → Deed → MachineState → MachineState
+do_deed d (deed.Writes put) s = put_var d put s
+do_deed d _ s = s
 
 -- a procedure has made a step: its own columns, what the step leaves to come, and then its write
-unfoldable pub stepped : Design → ℕ → MachineState → Deed × List Item → MachineState
-stepped d p s step = performed d step.0 (record s {
-  places = slice_set s.places p (placed s.moment step.0 step.1);
-  items = slice_set s.items p step.1;
+unfoldable pub make_step : Design → ℕ → MachineState → Deed × List Work → MachineState
+make_step d p s step = do_deed d step.0 (record s {
+  standings = slice_set s.standings p (standing_after_deed s.moment step.0 step.1);
+  work = slice_set s.work p step.1;
   locals = slice_set s.locals p (locals_after step.0 (locals_at s p));
   fresh = slice_set s.fresh p false;
-  nonblocking = s.nonblocking ++ scheduled step.0;
-  shown = s.shown ++ displayed p step.0;
+  nonblocking = s.nonblocking ++ updates_of step.0;
+  shown = s.shown ++ lines_shown p step.0;
   finished = s.finished || finishes step.0;
 })
 
-abbrev pub proc_step : Design → ℕ → MachineState → List Item → Option MachineState
+abbrev pub proc_step : Design → ℕ → MachineState → List Work → Option MachineState
 proc_step d p s [] = None
 proc_step d p s (i ∷ rest) =
-    in_turns (stepped d p s) (item_step (calls_of d) (world_of s) i rest (locals_at s p) most_turns)
+    in_turns (make_step d p s) (work_step (functions_of d) (world_of_state s) i rest (locals_at s p) most_turns)
 
 -- ---- assignments
 -- what a driver contributes to a net of this shape: its value, or where it drives a part its value there and z elsewhere
@@ -119,24 +122,24 @@ contribution shape low (suc n) value = one (with_part (Some (pos low)) (only val
 
 -- A driver's slot takes its value, and where it changes the net is to be resolved once more. A variable takes it and wakes
 -- where it changes (10.3.2).
-abbrev pub driven : Design → ℕ → Value → MachineState → Target → MachineState
-driven d a value s (target.Slot n slot low width) =
+abbrev pub drive : Design → ℕ → Value → MachineState → Target → MachineState
+drive d a value s (target.Slot n slot low width) =
     let new = contribution (net_shape d n) low width value in
     record s {
       slots = slice_set s.slots a new;
       resolutions = if is_same (value_at s.slots a) new then s.resolutions else more s.resolutions n;
     }
-driven d a value s (target.Var v path) = put_var d (leaves_put v 0 value) s
-driven d a value s (target.Local i path) = s
+drive d a value s (target.Var v path) = put_var d (leaves_put v 0 value) s
+drive d a value s (target.Local i path) = s
 
 -- one evaluation leaves Active
-abbrev pub evaluated : ℕ → MachineState → MachineState
-evaluated a s = record s { evaluations = fewer 1 s.evaluations a }
+abbrev pub take_evaluation : ℕ → MachineState → MachineState
+take_evaluation a s = record s { evaluations = fewer 1 s.evaluations a }
 
 abbrev pub assign_step : Design → ℕ → MachineState → Assign → Option MachineState
 assign_step d a s assign =
-    in_turns (λ value. driven d a value (evaluated a s) assign.target)
-    (value_of (calls_of d) (world_of s) assign.right [] most_turns)
+    in_turns (λ value. drive d a value (take_evaluation a s) assign.target)
+    (value_of (functions_of d) (world_of_state s) assign.right [] most_turns)
 
 -- ---- updates
 -- the first moved update is performed (4.9.4)
@@ -173,22 +176,22 @@ abbrev pub net_value : Design → NetKind → List Leaf → List Value → Optio
 net_value d Wire shape values = Some (joined_wires shape values)
 net_value d Unresolved shape [] = Some (default_value shape)
 net_value d Unresolved shape (value ∷ values) = Some value
-net_value d (Resolved f) shape values = in_turns (λ value. value) (calls_of d f values most_turns)
+net_value d (Resolved f) shape values = in_turns (λ value. value) (functions_of d f values most_turns)
 
 -- one resolution leaves Active
-abbrev pub resolved : ℕ → MachineState → MachineState
-resolved n s = record s { resolutions = fewer 1 s.resolutions n }
+abbrev pub take_resolution : ℕ → MachineState → MachineState
+take_resolution n s = record s { resolutions = fewer 1 s.resolutions n }
 
 abbrev pub resolve_step : Design → ℕ → List ℕ → MachineState → Net → Option MachineState
 resolve_step d n order s net =
     only_if (is_order (length net.slots) order)
-    (option_and_then (λ value. Some (set_net d n value (resolved n s))) (net_value d net.kind net.shape (in_order s.slots net.slots order)))
+    (option_and_then (λ value. Some (set_net d n value (take_resolution n s))) (net_value d net.kind net.shape (in_order s.slots net.slots order)))
 
 -- ---- the step
 -- The state after one event, or none where the event isn't allowed: it has to be in Active, a resolution names an order of
 -- its net's slots, and no evaluation is too long. Active events are taken in any order (4.7).
 unfoldable pub step : Design → MachineState → Event → Option MachineState
-step d s (Stmt p) = only_if (is_pending_at s (place_at s p)) (proc_step d p s (items_at s p))
+step d s (Stmt p) = only_if (is_pending_at s (standing_at s p)) (proc_step d p s (work_at s p))
 step d s (AssignEvent a) =
     only_if (nat_lt 0 (count_at s.evaluations a)) (option_and_then (assign_step d a s) (slice_get d.assigns a))
 step d s Update = update_step d s s.moved
@@ -204,20 +207,20 @@ abbrev pub is_some_put : List Put → Bool
 is_some_put [] = false
 is_some_put (put ∷ puts) = true
 
-abbrev pub is_some_item : List Item → Bool
-is_some_item [] = false
-is_some_item (i ∷ items) = true
+abbrev pub is_some_work : List Work → Bool
+is_some_work [] = false
+is_some_work (i ∷ items) = true
 
 -- whether the event is in Active, and the order of a resolution is one of its net's slots
 unfoldable pub is_pending : Design → MachineState → Event → Bool
-is_pending d s (Stmt p) = is_pending_at s (place_at s p) && is_some_item (items_at s p)
+is_pending d s (Stmt p) = is_pending_at s (standing_at s p) && is_some_work (work_at s p)
 is_pending d s (AssignEvent a) = nat_lt 0 (count_at s.evaluations a) && nat_lt a (length d.assigns)
 is_pending d s Update = is_some_put s.moved
 is_pending d s (Resolve n order) = nat_lt 0 (count_at s.resolutions n) && is_order_of (slice_get d.nets n) order
 
 -- how many copies of an event are in Active, whatever order a resolution names
 abbrev pub copies_of : MachineState → Event → ℕ
-copies_of s (Stmt p) = if is_pending_at s (place_at s p) then 1 else 0
+copies_of s (Stmt p) = if is_pending_at s (standing_at s p) then 1 else 0
 copies_of s (AssignEvent a) = count_at s.evaluations a
 copies_of s Update = length s.moved
 copies_of s (Resolve n order) = count_at s.resolutions n

@@ -1,5 +1,5 @@
 -- Texts of executions, which are this project's own. A witness lists entries, a trace what is seen of each slot.
-use Rattle.std.specs.Prelude.{ℕ, Bool, not, List, [], ◌∷◌, ◌++◌, map, filter, get_or, codes, decimal, Option, Some, None, if◌then◌else◌}
+use Rattle.std.specs.Prelude.{◌≡◌, ℕ, ◌<◌, ◌≤◌, ◌^◌, All, Bool, not, List, [], ◌∷◌, ◌++◌, map, filter, get_or, codes, decimal, Option, Some, None, if◌then◌else◌}
 use Rattle.std.specs.List.{flat_map}
 use Rattle.nt_value.specs.Texts.{value_text}
 use Rattle.nt_design.specs.Parts.{Value}
@@ -10,8 +10,8 @@ use Rattle.nt_design.specs.declared.object.Var.{Var}
 use Rattle.nt_design.specs.declared.object.Object.{Object}
 use Rattle.nt_design.specs.declared.object.Object.TheVariants.{Net as NetObject, Var as VarObject}
 use Rattle.nt_semantics.specs.Same.{is_same, is_same_object}
-use Rattle.nt_semantics.specs.State.{MachineState, value_at}
-use Rattle.nt_semantics.specs.Execution.{Observation}
+use Rattle.nt_semantics.specs.State.{value_at}
+use Rattle.nt_semantics.specs.Execution.{Observation, Limit, Entries, Turns}
 use Rattle.nt_semantics.specs.declared.event.Event.{Event}
 use Rattle.nt_semantics.specs.declared.event.Event.TheVariants.{Stmt, Assign as AssignEvent, Update, Resolve}
 use Rattle.nt_semantics.specs.declared.event.Entry.{Entry}
@@ -33,6 +33,20 @@ entry_line entry = event_line entry.event entry.count
 
 abbrev pub entry_lines : List Entry → List ℕ
 entry_lines entries = flat_map entry_line entries
+
+-- What a line can tell of an entry: numbers of procedures, assignments, nets and slots are below 2^32, and a count is at least
+-- 1 and below 2^64. A line without a count stands for one event.
+abbrev pub IsCount : ℕ → Type 0
+IsCount count = (1 ≤ count) × (count < 2 ^ 64)
+
+abbrev pub IsWrittenAs : Event → ℕ → Type 0
+IsWrittenAs (Stmt p) count = (p < 2 ^ 32) × (count ≡ 1)
+IsWrittenAs (AssignEvent a) count = (a < 2 ^ 32) × IsCount count
+IsWrittenAs Update count = count ≡ 1
+IsWrittenAs (Resolve n order) count = (n < 2 ^ 32) × (All (λ slot. slot < 2 ^ 32) order × IsCount count)
+
+abbrev pub IsWritten : Entry → Type 0
+IsWritten entry = IsWrittenAs entry.event entry.count
 
 abbrev pub witness_head : List ℕ
 witness_head = codes "nettype-witness 1\n"
@@ -99,9 +113,20 @@ end_text until = codes "end " ++ (decimal until ++ (10 ∷ []))
 abbrev pub finish_text : ℕ → List ℕ
 finish_text moment = codes "finish " ++ (decimal moment ++ (10 ∷ []))
 
-abbrev pub last_text : ℕ → MachineState → List ℕ
-last_text until s = if s.finished then finish_text s.moment else end_text until
+-- the moment of the last of these slots, which come after one at this moment
+abbrev pub last_moment : ℕ → List Observation → ℕ
+last_moment moment [] = moment
+last_moment moment (seen ∷ slots) = last_moment seen.moment slots
 
--- each slot that has ended, and the end
-abbrev pub trace_text : Design → ℕ → List Observation → MachineState → List ℕ
-trace_text d until slots end_state = slots_text d None slots ++ last_text until end_state
+abbrev pub last_text : ℕ → List Observation → Bool → List ℕ
+last_text until slots finished = if finished then finish_text (last_moment 0 slots) else end_text until
+
+-- each slot that has ended, and the end: at this time limit, or where `$finish` was met
+abbrev pub trace_text : Design → ℕ → List Observation → Bool → List ℕ
+trace_text d until slots finished = slots_text d None slots ++ last_text until slots finished
+
+-- the end of a run that met a limit in the slot of this moment: `step limit #` and the moment, and how many entries the slot
+-- has; `turn limit #` and the moment, and the line of the entry that is too long
+abbrev pub limit_text : ℕ → Limit → List ℕ
+limit_text moment (Entries count) = codes "step limit #" ++ (decimal moment ++ (32 ∷ (decimal count ++ (10 ∷ []))))
+limit_text moment (Turns entry) = codes "turn limit #" ++ (decimal moment ++ (32 ∷ entry_line entry))

@@ -17,7 +17,11 @@ use Rattle.nt_design.specs.declared.object.Object.{Object}
 use Rattle.nt_design.specs.declared.process.Assign.{Assign}
 use Rattle.nt_design.specs.declared.tree.Tree.{Tree}
 use Rattle.nt_semantics.specs.Same.{is_same, is_one_of}
-use Rattle.nt_semantics.specs.State.{Item, Do, Awaiting, Place, Ready, Waits, MachineState, to_do, place_at, items_at, locals_at, count_at, each_below, world_of}
+use Rattle.nt_semantics.specs.State.{MachineState, to_do, standing_at, work_at, locals_at, count_at, each_below, world_of_state}
+use Rattle.nt_semantics.specs.declared.standing.Standing.{Standing}
+use Rattle.nt_semantics.specs.declared.standing.Standing.TheVariants.{Ready, Waits}
+use Rattle.nt_semantics.specs.declared.work.Work.{Work}
+use Rattle.nt_semantics.specs.declared.work.Work.TheVariants.{Do, Awaiting}
 
 -- ---- edges (9.4.2, Table 9-2)
 -- from 0 to 1, x or z, or from x or z to 1
@@ -60,15 +64,15 @@ some_match (e ∷ on) (k ∷ kept) (n ∷ new) = matches e.0 k n || some_match o
 pub data Waking : Type 0 where
   Asleep : Waking
   Keeps : (kept : List Value) → Waking
-  Wakes : (items : List Item) → Waking
+  Wakes : (items : List Work) → Waking
 
-abbrev pub wakes_if : Bool → List Item → Waking
+abbrev pub wakes_if : Bool → List Work → Waking
 wakes_if true items = Wakes items
 wakes_if false items = Asleep
 
 -- an event control with the values that its expressions have now: where a change is awaited its statement is next, and
 -- else these values are kept
-abbrev pub tested : List (Edge × Tree) → List Value → List Item → Timed (List Value) → Waking
+abbrev pub tested : List (Edge × Tree) → List Value → List Work → Timed (List Value) → Waking
 tested on kept items None = Asleep
 tested on kept items (Some new) = if some_match on kept new.0 then Wakes items else Keeps new.0
 
@@ -78,7 +82,7 @@ tested_if false waking = Asleep
 
 -- a change of an object, for a statement at the head: an event control is tested where it reads the object; `@*` goes on
 -- after a change of what its statement reads (9.4.2.2), and a `wait` is then to be tested again (9.4.3)
-abbrev pub statement_wakes : Calls → World → Object → List Value → Act → List Item → List Value → Act-F Act → Waking
+abbrev pub statement_wakes : Calls → World → Object → List Value → Act → List Work → List Value → Act-F Act → Waking
 statement_wakes calls world o kept s rest locals (Act-F.Event true on body at) =
     wakes_if (is_one_of (act_reads body) o) (to_do body ++ rest)
 statement_wakes calls world o kept s rest locals (Act-F.Event false on body at) =
@@ -89,35 +93,35 @@ statement_wakes calls world o kept s rest locals (Act-F.Wait test body at) =
 statement_wakes calls world o kept s rest locals _ = Asleep
 
 -- an `always_comb` does its body again (9.2.2.2.1)
-abbrev pub items_wake : Calls → World → Object → List Value → List Item → List Value → Waking
-items_wake calls world o kept (Do s ∷ rest) locals = statement_wakes calls world o kept s rest locals (out-Act s)
-items_wake calls world o kept (Awaiting reads body ∷ rest) locals =
+abbrev pub work_wakes : Calls → World → Object → List Value → List Work → List Value → Waking
+work_wakes calls world o kept (Do s ∷ rest) locals = statement_wakes calls world o kept s rest locals (out-Act s)
+work_wakes calls world o kept (Awaiting reads body ∷ rest) locals =
     wakes_if (is_one_of reads o) (to_do body ++ Awaiting reads body ∷ rest)
-items_wake calls world o kept _ locals = Asleep
+work_wakes calls world o kept _ locals = Asleep
 
 -- a change of an object, for a procedure: nothing where it doesn't wait
-abbrev pub waking : Calls → World → Object → Place → List Item → List Value → Waking
-waking calls world o (Waits kept) items locals = items_wake calls world o kept items locals
+abbrev pub waking : Calls → World → Object → Standing → List Work → List Value → Waking
+waking calls world o (Waits kept) items locals = work_wakes calls world o kept items locals
 waking calls world o _ items locals = Asleep
 
-abbrev pub place_after : Place → Waking → Place
-place_after place Asleep = place
-place_after place (Keeps kept) = Waits kept
-place_after place (Wakes items) = Ready
+abbrev pub standing_after : Standing → Waking → Standing
+standing_after standing Asleep = standing
+standing_after standing (Keeps kept) = Waits kept
+standing_after standing (Wakes items) = Ready
 
-abbrev pub items_after : List Item → Waking → List Item
-items_after items Asleep = items
-items_after items (Keeps kept) = items
-items_after items (Wakes new) = new
+abbrev pub work_after : List Work → Waking → List Work
+work_after items Asleep = items
+work_after items (Keeps kept) = items
+work_after items (Wakes new) = new
 
 -- ---- all that wakes
 -- what functions give, within the turns of an event
-abbrev pub calls_of : Design → Calls
-calls_of d = calls_to d.functions most_turns
+abbrev pub functions_of : Design → Calls
+functions_of d = calls_to d.functions most_turns
 
 -- what a change of an object does to a procedure in a state that has its new value
 abbrev pub waking_at : Design → Object → MachineState → ℕ → Waking
-waking_at d o s p = waking (calls_of d) (world_of s) o (place_at s p) (items_at s p) (locals_at s p)
+waking_at d o s p = waking (functions_of d) (world_of_state s) o (standing_at s p) (work_at s p) (locals_at s p)
 
 -- an assignment reads the object
 abbrev pub reads_at : Design → Object → ℕ → Bool
@@ -131,7 +135,7 @@ one_more_if false n = n
 -- that reads it is to be evaluated once more.
 unfoldable pub wake : Design → Object → Bool → MachineState → MachineState
 wake d o changed s = record s {
-  places = if changed then each_below (length s.places) (λ p. place_after (place_at s p) (waking_at d o s p)) else s.places;
-  items = if changed then each_below (length s.items) (λ p. items_after (items_at s p) (waking_at d o s p)) else s.items;
+  standings = if changed then each_below (length s.standings) (λ p. standing_after (standing_at s p) (waking_at d o s p)) else s.standings;
+  work = if changed then each_below (length s.work) (λ p. work_after (work_at s p) (waking_at d o s p)) else s.work;
   evaluations = if changed then each_below (length s.evaluations) (λ a. one_more_if (reads_at d o a) (count_at s.evaluations a)) else s.evaluations;
 }

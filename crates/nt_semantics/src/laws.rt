@@ -1,5 +1,5 @@
 // Laws of the definitions in specs/, each proved of every design and state.
-ghost use Rattle.nt_semantics.specs.Laws.{ExecutionFits, OrdersArePermutations, OnlyPending, AgainChangesNothing, RoundLeads, MoveFills, MoveKeeps, MoveStays, StartFits, StepKeeps};
+ghost use Rattle.nt_semantics.specs.Laws.{ExecutionFits, OrdersArePermutations, OnlyPending, AgainChangesNothing, RoundLeads, MoveFills, MoveKeeps, MoveStays, StartFits, StepKeeps, EndedIsFollowed, WitnessIsOne, OthersWakeTheWaiting, PhaseKeepsLists, RoundKeepsLists, RoundShows, OnlyActive, SlotsBeginSmall};
 
 /// The orders that a resolution of n slots may name are the permutations of the numbers below n (4.7).
 pub fn orders_are_permutations()
@@ -32,7 +32,7 @@ pub fn move_stays()
     ensures { MoveStays }
 {}
 
-/// A move keeps a state of its design.
+/// A move up to a time limit of at most 2^48 keeps a state of its design.
 pub fn move_keeps()
     ensures { MoveKeeps }
 {}
@@ -47,7 +47,47 @@ pub fn step_keeps()
     ensures { StepKeeps }
 {}
 
-/// An execution ends in a state of its design.
+/// An execution up to a time limit of at most 2^48 ends in a state of its design.
 pub fn execution_fits()
     ensures { ExecutionFits }
+{}
+
+/// The slots that have ended are those that a later one followed, and that of the last state where it is over.
+pub fn ended_is_followed()
+    ensures { EndedIsFollowed }
+{}
+
+/// A witness is the text of one list of entries.
+pub fn witness_is_one()
+    ensures { WitnessIsOne }
+{}
+
+/// An event of another makes ready only a procedure that waited.
+pub fn others_wake_the_waiting()
+    ensures { OthersWakeTheWaiting }
+{}
+
+/// Phase Evaluate of one group leaves on the list each process that is ready.
+pub fn phase_keeps_lists()
+    ensures { PhaseKeepsLists }
+{}
+
+/// A round with one group keeps its ready list right.
+pub fn round_keeps_lists()
+    ensures { RoundKeepsLists }
+{}
+
+/// A round of a state with something in Active has an entry, or an event that is too long.
+pub fn round_shows()
+    ensures { RoundShows }
+{}
+
+/// Only a state with something in Active has a step.
+pub fn only_active()
+    ensures { OnlyActive }
+{}
+
+/// A slot that begins is at most at the time limit, with at most one copy of each event.
+pub fn slots_begin_small()
+    ensures { SlotsBeginSmall }
 {}

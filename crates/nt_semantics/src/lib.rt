@@ -6,12 +6,20 @@ mod deed;
 mod event;
 mod laws;
 mod moved;
+mod process;
+mod standing;
+mod work;
 
 pub use deed::Deed;
 pub use event::{Entry, Event, Order};
 pub use laws::{
-    again_changes_nothing, execution_fits, move_fills, move_keeps, move_stays, only_pending,
-    orders_are_permutations, round_leads, start_fits, step_keeps,
+    again_changes_nothing, ended_is_followed, execution_fits, move_fills, move_keeps, move_stays,
+    only_active, only_pending, orders_are_permutations, others_wake_the_waiting, phase_keeps_lists,
+    round_keeps_lists, round_leads, round_shows, slots_begin_small, start_fits, step_keeps,
+    witness_is_one,
 };
 pub use moved::Moved;
 pub use nt_design::Put;
+pub use process::Process;
+pub use standing::Standing;
+pub use work::Work;

@@ -1,0 +1,50 @@
+-- When ready lists are right: each process that has an event in Active stands on its list (this project's own).
+use Rattle.std.specs.Prelude.{◌≡◌, ◌⊎◌, ⊤, ℕ, ◌<◌, Bool, true, false, List, [], ◌∷◌, length, IsSome}
+use Rattle.nt_design.specs.declared.design.Design.{Design}
+use Rattle.nt_semantics.specs.Groups.{processes, is_among}
+use Rattle.nt_semantics.specs.Rounds.{RoundState, RoundEnd, is_ready}
+use Rattle.nt_semantics.specs.State.{MachineState, standing_at}
+use Rattle.nt_semantics.specs.declared.standing.Standing.{Standing}
+use Rattle.nt_semantics.specs.declared.standing.Standing.TheVariants.{Ready, Waits, Unbegun}
+use Rattle.nt_semantics.specs.Step.{may_begin}
+use Rattle.nt_semantics.specs.declared.event.Event.{Event}
+use Rattle.nt_semantics.specs.declared.event.Event.TheVariants.{Stmt, Assign as AssignEvent, Update, Resolve}
+use Rattle.nt_semantics.specs.declared.process.Process.{Process}
+use Rattle.nt_semantics.specs.declared.process.Process.TheVariants.{Procedure}
+
+-- ready, or waiting for a change
+abbrev pub is_live : Standing → Bool
+is_live Ready = true
+is_live (Waits kept) = true
+is_live _ = false
+
+-- the event is a step of another procedure, or of none
+abbrev pub IsOther : ℕ → Event → Type 0
+IsOther p (Stmt q) = q ≡ p → ⊥
+IsOther p (AssignEvent a) = ⊤
+IsOther p Update = ⊤
+IsOther p (Resolve n order) = ⊤
+
+-- each process that is ready stands on this list
+abbrev pub Listed : Design → MachineState → List Process → Type 0
+Listed d s xs = (x : Process) → is_among (processes d) x ≡ true → is_ready s x ≡ true → is_among xs x ≡ true
+
+-- the one ready list of one group is right
+abbrev pub OneListed : Design → MachineState → List (List Process) → Type 0
+OneListed d s ready = (xs : List Process) × (ready ≡ xs ∷ []) × Listed d s xs
+
+-- between rounds with one group, after the first: the list is right, each `always_comb` that may begin is on it, no update is
+-- on its way, and each column has the design's length
+pub record RoundFits (d : Design) (r : RoundState) : Type 0 where
+  pub list : List Process
+  pub is_list : r.ready ≡ list ∷ []
+  pub listed : Listed d r.state list
+  pub combs : may_begin r.state ≡ true → (p : ℕ) → standing_at r.state p ≡ Unbegun → is_among list (Procedure p) ≡ true
+  pub moved : r.state.moved ≡ []
+  pub standings : length r.state.standings ≡ length d.procs
+  pub evaluations : length r.state.evaluations ≡ length d.assigns
+  pub resolutions : length r.state.resolutions ≡ length d.nets
+
+-- an entry, or an event that is too long
+abbrev pub Shows : RoundEnd → Type 0
+Shows e = (0 < length e.entries) ⊎ IsSome e.too_long
