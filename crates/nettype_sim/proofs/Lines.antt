@@ -1,5 +1,5 @@
 -- The lines of a slot, one net more, and the text of a slot of nets.
-use Rattle.std.proofs.Common.{◌≡◌, ℕ, zero, suc, ◌+◌, ◌<◌, Bool, true, false, not, ◌==◌, if◌then◌else◌, List, [], ◌∷◌, ◌++◌, length, get_or, slice_get, map, filter, take, Some, None, refl, sym, ◌∙◌, ap, arith, append_assoc, append-nil, codes, decimal, ne_eqb}
+use Rattle.std.proofs.Common.{◌≡◌, ℕ, zero, suc, ◌+◌, ◌<◌, not, if◌then◌else◌, List, [], ◌∷◌, ◌++◌, length, get_or, slice_get, map, filter, Some, None, refl, sym, ◌∙◌, ap, arith, append_assoc, append-nil, codes, decimal, ne_eqb}
 use Rattle.std.specs.List.{flat_map, range_with_len}
 use Rattle.std.proofs.lemmas.Grind.{flat_map-append}
 use Rattle.std.proofs.lemmas.Option.{get_or_from_slice_get, slice_get-get_or, slice_get-map}
@@ -9,12 +9,11 @@ use Rattle.nt_design.specs.Parts.{Value}
 use Rattle.nt_design.specs.Plain.{IsPlain}
 use Rattle.nt_design.specs.declared.design.Design.{Design}
 use Rattle.nt_design.specs.declared.object.Net.{Net}
-use Rattle.nt_design.specs.declared.object.Object.{Object}
 use Rattle.nt_design.specs.declared.object.Object.TheVariants as object
 use Rattle.nt_semantics.specs.Execution.{Observation, observation_of}
 use Rattle.nt_machine.specs.Plain.{IsPlainState}
 use Rattle.nt_semantics.specs.Same.{is_same_object}
-use Rattle.nt_semantics.specs.State.{MachineState, value_at}
+use Rattle.nt_semantics.specs.State.{MachineState}
 use Rattle.nt_semantics.specs.Texts.{object_line, first_of_each, objects_of, displayed_line, slot_text}
 use Rattle.nettype_sim.specs.Nets.{first_nets, net_lines}
 use Rattle.nettype_sim.proofs.Steps.{range_from_0}

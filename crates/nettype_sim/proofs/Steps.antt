@@ -6,7 +6,6 @@ use Rattle.std.proofs.lemmas.List.{flat_map_more, replicate_more, get_or_past, g
 use Rattle.std.proofs.lemmas.List.Elements.{All-append, All-nil, All-cons}
 use Rattle.std.proofs.lemmas.Bool.{and_parts}
 use Rattle.std.proofs.lemmas.Option.{none-some}
-use Rattle.nt_design.specs.Parts.{Value}
 use Rattle.nt_design.specs.Plain.{IsPlain}
 use Rattle.nt_design.specs.WellFormed.{IsDesign}
 use Rattle.nt_design.specs.declared.design.Design.{Design}
@@ -21,7 +20,7 @@ use Rattle.nt_semantics.specs.declared.event.Event.{Event}
 use Rattle.nt_semantics.specs.declared.event.Event.TheVariants.{Stmt, Assign, Update, Resolve}
 use Rattle.nt_semantics.specs.declared.event.Entry.{Entry}
 use Rattle.nt_machine.proofs.Counts.{at_most_counts}
-use Rattle.nt_machine.proofs.Moves.{settled, step_still}
+use Rattle.nt_machine.proofs.Moves.{settled}
 use Rattle.nt_semantics.proofs.StartFitting.{start_fits}
 use Rattle.nt_machine.proofs.Starts.{start_still}
 use Rattle.nt_machine.proofs.Steps.{can_evaluate, can_resolve, evaluated_to, resolved_to}

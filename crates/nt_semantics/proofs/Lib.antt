@@ -9,6 +9,8 @@ pub mod EventKeeps
 pub mod Examples
 pub mod Filling
 pub mod Followed
+pub mod GoingHere
+pub mod Growing
 pub mod InActive
 pub mod Keeping
 pub mod Listing
@@ -17,6 +19,7 @@ pub mod MovingHere
 pub mod Orders
 pub mod Parts
 pub mod ProcKeeps
+pub mod RoundFitting
 pub mod RoundSteps
 pub mod Rounding
 pub mod RoundsOfMarks

@@ -4,7 +4,7 @@ use Rattle.std.proofs.lemmas.Bool.{false≢true, eq-eqb, eqb-true, ltb-false}
 use Rattle.nt_design.specs.declared.design.Design.{Design}
 use Rattle.nt_semantics.specs.Execution.{enter, steps, copies, is_entry, if_some}
 use Rattle.nt_semantics.specs.Groups.{processes, is_among, is_same_process}
-use Rattle.nt_semantics.specs.Rounds.{PhaseEnd, TooLong, phase, is_ready, stands_ready, is_waiting, is_woken, with_new, woken, without_evaluations, entry_of, next_ready, away_after, marks_of, and_before, stops}
+use Rattle.nt_semantics.specs.Rounds.{Away, PhaseEnd, TooLong, phase, is_ready, stands_ready, is_waiting, is_woken, with_new, woken, without_evaluations, entry_of, next_ready, away_after, marks_of, and_before, stops}
 use Rattle.nt_semantics.specs.State.{MachineState, standing_at, count_at}
 use Rattle.nt_semantics.specs.declared.standing.Standing.{Standing}
 use Rattle.nt_semantics.specs.declared.standing.Standing.TheVariants.{Unbegun, Ready, Inactive, Later, Waits, Over}
@@ -128,7 +128,7 @@ module _ (d : Design) (s t : MachineState) (x : Process) (enters : enter d s (en
       of_process (Assignment a) (Assignment b) other before now run =
           ap (λ n. nat_lt n (count_at t.evaluations b)) (get_or-set_other s.evaluations a b _ 0 (λ e. false≢true (sym other ∙ eq-eqb b a e)) ∙ none_pending (count_at s.evaluations b) before) ∙ now
 
-  listed_next : (xs : List Process) → Listed d s (x ∷ xs) → Listed d t (next_ready d s t x xs)
+  pub listed_next : (xs : List Process) → Listed d s (x ∷ xs) → Listed d t (next_ready d s t x xs)
   listed_next xs listed y there now = of_own (is_same_process y x) refl
     where
       first : List Process
@@ -143,16 +143,22 @@ module _ (d : Design) (s t : MachineState) (x : Process) (enters : enter d s (en
       of_own false other = old_among first (filter (is_ready t) (x ∷ [])) y (of_before (is_ready s y) refl other)
 
 -- ---- a phase
-pub phase_listed : PhaseKeepsLists
-unfolding phase
-phase_listed n d s [] away listed = listed
-phase_listed zero d s (x ∷ xs) away listed = listed
-phase_listed (suc n) d s (x ∷ xs) away listed =
-    of_entry (λ t. phase_listed n d t (next_ready d s t x xs) (away_after t x away)) (enter d s (entry_of d s x)) refl
-  where
-    end_of : Option MachineState → PhaseEnd
-    end_of o = if_some (stops s (x ∷ xs) away (TooLong (entry_of d s x).event)) (λ t. and_before (entry_of d s x) (marks_of d s t x) (phase n d t (next_ready d s t x xs) (away_after t x away))) o
+-- what each entry keeps of a state and a list, a phase keeps
+module _ (d : Design) (K : MachineState → List Process → Type 0) (next : (s t : MachineState) (x : Process) (xs : List Process) → enter d s (entry_of d s x) ≡ Some t → K s (x ∷ xs) → K t (next_ready d s t x xs)) where
+  pub phase_keeps : (n : ℕ) (s : MachineState) (xs : List Process) (away : Away) → K s xs → K (phase n d s xs away).state (phase n d s xs away).ready
+  unfolding phase
+  phase_keeps n s [] away kept = kept
+  phase_keeps zero s (x ∷ xs) away kept = kept
+  phase_keeps (suc n) s (x ∷ xs) away kept =
+      of_entry (λ t. phase_keeps n t (next_ready d s t x xs) (away_after t x away)) (enter d s (entry_of d s x)) refl
+    where
+      end_of : Option MachineState → PhaseEnd
+      end_of o = if_some (stops s (x ∷ xs) away (TooLong (entry_of d s x).event)) (λ t. and_before (entry_of d s x) (marks_of d s t x) (phase n d t (next_ready d s t x xs) (away_after t x away))) o
 
-    of_entry : ((t : MachineState) → Listed d t (next_ready d s t x xs) → Listed d (phase n d t (next_ready d s t x xs) (away_after t x away)).state (phase n d t (next_ready d s t x xs) (away_after t x away)).ready) → (o : Option MachineState) → enter d s (entry_of d s x) ≡ o → Listed d (end_of o).state (end_of o).ready
-    of_entry go None is = listed
-    of_entry go (Some t) is = go t (listed_next d s t x is xs listed)
+      of_entry : ((t : MachineState) → K t (next_ready d s t x xs) → K (phase n d t (next_ready d s t x xs) (away_after t x away)).state (phase n d t (next_ready d s t x xs) (away_after t x away)).ready) → (o : Option MachineState) → enter d s (entry_of d s x) ≡ o → K (end_of o).state (end_of o).ready
+      of_entry go None is = kept
+      of_entry go (Some t) is = go t (next s t x xs is kept)
+
+pub phase_listed : PhaseKeepsLists
+phase_listed n d s xs away listed =
+    phase_keeps d (Listed d) (λ s t x xs is. listed_next d s t x is xs) n s xs away listed

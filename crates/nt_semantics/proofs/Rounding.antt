@@ -21,7 +21,7 @@ module _ (d : Design) (n k : ℕ) (order : List ℕ) (s t : MachineState) (runs 
   became (Assignment b) before now =
       ap (λ m. nat_lt m (count_at t.evaluations b)) (none_pending (count_at s.evaluations b) before) ∙ now
 
-  published : (xs : List Process) → Listed d s xs → Listed d t (with_new xs (filter (is_among (processes d)) (woken d s t)))
+  pub published : (xs : List Process) → Listed d s xs → Listed d t (with_new xs (filter (is_among (processes d)) (woken d s t)))
   published xs listed y there now = of_before (is_ready s y) refl
     where
       of_before : (b : Bool) → is_ready s y ≡ b → is_among (with_new xs (filter (is_among (processes d)) (woken d s t))) y ≡ true
@@ -30,7 +30,11 @@ module _ (d : Design) (n k : ℕ) (order : List ℕ) (s t : MachineState) (runs 
           new_among xs (filter (is_among (processes d)) (woken d s t)) y (among_filter (is_among (processes d)) (woken d s t) y there (among_filter (is_woken s t) (processes d) y (became y was now) there))
 
 -- ---- phase Resolve
-module _ (d : Design) (orders : ℕ → List ℕ) where
+abbrev pub OneOf : (MachineState → List Process → Type 0) → MachineState → List (List Process) → Type 0
+OneOf K s ready = (xs : List Process) × (ready ≡ xs ∷ []) × K s xs
+
+-- what each publication keeps of a state and a list, phase Resolve keeps
+module _ (d : Design) (orders : ℕ → List ℕ) (K : MachineState → List Process → Type 0) (next : (n k : ℕ) (order : List ℕ) (s t : MachineState) → steps d (replicate k (Resolve n order)) s ≡ Some t → (xs : List Process) → K s xs → K t (with_new xs (filter (is_among (processes d)) (woken d s t)))) where
   abbrev goes : ℕ → List ℕ → MachineState → List Process → MachineState → ResolveEnd
   goes n nets s xs t =
       with_entry (net_entry s n (orders n)) (resolve_nets d (processes d ∷ []) orders nets t (with_woken (processes d ∷ []) (woken d s t) (xs ∷ [])))
@@ -38,18 +42,22 @@ module _ (d : Design) (orders : ℕ → List ℕ) where
   abbrev stops_at : ℕ → MachineState → List Process → ResolveEnd
   stops_at n s xs = record { state = s; ready = xs ∷ []; entries = []; too_long = Some (Resolve n (orders n)) }
 
-  resolve_listed : (nets : List ℕ) (s : MachineState) (xs : List Process) → Listed d s xs → OneListed d (resolve_nets d (processes d ∷ []) orders nets s (xs ∷ [])).state (resolve_nets d (processes d ∷ []) orders nets s (xs ∷ [])).ready
-  resolve_listed [] s xs listed = (xs, refl, listed)
-  resolve_listed (n ∷ nets) s xs listed =
-      of_count (λ t ys h. resolve_listed nets t ys h) (count_at s.resolutions n == 0)
-    where
-      of_entry : ((t : MachineState) (ys : List Process) → Listed d t ys → OneListed d (resolve_nets d (processes d ∷ []) orders nets t (ys ∷ [])).state (resolve_nets d (processes d ∷ []) orders nets t (ys ∷ [])).ready) → (o : Option MachineState) → enter d s (net_entry s n (orders n)) ≡ o → OneListed d (if_some (stops_at n s xs) (goes n nets s xs) o).state (if_some (stops_at n s xs) (goes n nets s xs) o).ready
-      of_entry go None h = (xs, refl, listed)
-      of_entry go (Some t) h =
-          go t (with_new xs (filter (is_among (processes d)) (woken d s t))) (published d n (count_at s.resolutions n) (orders n) s t (entered (is_entry d (net_entry s n (orders n))) (steps d (copies (net_entry s n (orders n))) s) t h) xs listed)
+  abbrev After : List ℕ → MachineState → List Process → Type 0
+  After nets s xs =
+      OneOf K (resolve_nets d (processes d ∷ []) orders nets s (xs ∷ [])).state (resolve_nets d (processes d ∷ []) orders nets s (xs ∷ [])).ready
 
-      of_count : ((t : MachineState) (ys : List Process) → Listed d t ys → OneListed d (resolve_nets d (processes d ∷ []) orders nets t (ys ∷ [])).state (resolve_nets d (processes d ∷ []) orders nets t (ys ∷ [])).ready) → (b : Bool) → OneListed d (if b then resolve_nets d (processes d ∷ []) orders nets s (xs ∷ []) else if_some (stops_at n s xs) (goes n nets s xs) (enter d s (net_entry s n (orders n)))).state (if b then resolve_nets d (processes d ∷ []) orders nets s (xs ∷ []) else if_some (stops_at n s xs) (goes n nets s xs) (enter d s (net_entry s n (orders n)))).ready
-      of_count go true = go s xs listed
+  pub resolve_keeps : (nets : List ℕ) (s : MachineState) (xs : List Process) → K s xs → After nets s xs
+  resolve_keeps [] s xs kept = (xs, refl, kept)
+  resolve_keeps (n ∷ nets) s xs kept =
+      of_count (λ t ys h. resolve_keeps nets t ys h) (count_at s.resolutions n == 0)
+    where
+      of_entry : ((t : MachineState) (ys : List Process) → K t ys → After nets t ys) → (o : Option MachineState) → enter d s (net_entry s n (orders n)) ≡ o → OneOf K (if_some (stops_at n s xs) (goes n nets s xs) o).state (if_some (stops_at n s xs) (goes n nets s xs) o).ready
+      of_entry go None h = (xs, refl, kept)
+      of_entry go (Some t) h =
+          go t (with_new xs (filter (is_among (processes d)) (woken d s t))) (next n (count_at s.resolutions n) (orders n) s t (entered (is_entry d (net_entry s n (orders n))) (steps d (copies (net_entry s n (orders n))) s) t h) xs kept)
+
+      of_count : ((t : MachineState) (ys : List Process) → K t ys → After nets t ys) → (b : Bool) → OneOf K (if b then resolve_nets d (processes d ∷ []) orders nets s (xs ∷ []) else if_some (stops_at n s xs) (goes n nets s xs) (enter d s (net_entry s n (orders n)))).state (if b then resolve_nets d (processes d ∷ []) orders nets s (xs ∷ []) else if_some (stops_at n s xs) (goes n nets s xs) (enter d s (net_entry s n (orders n)))).ready
+      of_count go true = go s xs kept
       of_count go false = of_entry go (enter d s (net_entry s n (orders n))) refl
 
 -- more at the end of a list
@@ -63,7 +71,7 @@ unfolding round
 round_listed d orders r (xs, is, listed) =
     let e = evaluate d r.state (xs ∷ []) r.away in
     let p = resolve_after d (processes d ∷ []) orders e in
-    at (xs ∷ []) (sym is) (appended d p.state (combs_after d r p.state) p.ready (resolve_listed d orders (if is_some e.too_long then [] else range_with_len 0 (length d.nets)) e.state (phase quantum d r.state xs r.away).ready (phase_listed quantum d r.state xs r.away listed)))
+    at (xs ∷ []) (sym is) (appended d p.state (combs_after d r p.state) p.ready (resolve_keeps d orders (Listed d) (λ n k order s t runs xs. published d n k order s t runs xs) (if is_some e.too_long then [] else range_with_len 0 (length d.nets)) e.state (phase quantum d r.state xs r.away).ready (phase_listed quantum d r.state xs r.away listed)))
   where
     after_state : List (List Process) → MachineState
     after_state l = (resolve_after d (processes d ∷ []) orders (evaluate d r.state l r.away)).state

@@ -27,7 +27,7 @@ any_place test past (x ∷ xs) h = of_first (λ g. any_place test past xs g) (te
     of_first rest true is g = (zero, omega arith, is)
     of_first rest false is g = let i = rest g in (suc i.0, omega (arith, i.1), i.2)
 
-among_procs : (n a p : ℕ) → a ≤ p → p < a + n → is_among (map (λ q. Procedure q) (range_with_len a n)) (Procedure p) ≡ true
+pub among_procs : (n a p : ℕ) → a ≤ p → p < a + n → is_among (map (λ q. Procedure q) (range_with_len a n)) (Procedure p) ≡ true
 among_procs zero a p low high = absurd (omega (arith, low, high))
 among_procs (suc n) a p low high = of_same (λ other. among_procs n (a + 1) p other (omega (arith, high))) (p == a) refl
   where
@@ -115,7 +115,7 @@ module _ (d : Design) (orders : ℕ → List ℕ) (r : RoundState) where
     no_place none i low h = of_place (standing_at r.state i) refl h
       where
         among : is_among (processes d) (Procedure i) ≡ true
-        among = among_left (map (λ q. Procedure q) (range_with_len 0 (length d.procs))) (map (λ q. Assignment q) (range_with_len 0 (length d.assigns))) (Procedure i) (among_procs (length d.procs) 0 i (omega arith) (omega (arith, low, fits.standings)))
+        among = among_left (map (λ q. Procedure q) (range_with_len 0 (length d.procs))) (map (λ q. Assignment q) (range_with_len 0 (length d.assigns))) (Procedure i) (among_procs (length d.procs) 0 i (omega arith) (omega (arith, low, fits.fits.standings)))
 
         of_place : (q : Standing) → standing_at r.state i ≡ q → is_pending_at r.state q ≡ true → ⊥
         of_place Ready is g = not_on (Procedure i) none (fits.listed (Procedure i) among (ready is))
@@ -130,7 +130,7 @@ module _ (d : Design) (orders : ℕ → List ℕ) (r : RoundState) where
 
     no_evaluation : fits.list ≡ [] → (a : ℕ) → a < length r.state.evaluations → nat_lt 0 (count_at r.state.evaluations a) ≡ true → ⊥
     no_evaluation none a low h =
-        not_on (Assignment a) none (fits.listed (Assignment a) (among_right (map (λ q. Procedure q) (range_with_len 0 (length d.procs))) (map (λ q. Assignment q) (range_with_len 0 (length d.assigns))) (Assignment a) (among_assigns (length d.assigns) 0 a (omega arith) (omega (arith, low, fits.evaluations)))) h)
+        not_on (Assignment a) none (fits.listed (Assignment a) (among_right (map (λ q. Procedure q) (range_with_len 0 (length d.procs))) (map (λ q. Assignment q) (range_with_len 0 (length d.assigns))) (Assignment a) (among_assigns (length d.assigns) 0 a (omega arith) (omega (arith, low, fits.fits.evaluations)))) h)
 
     shows_none : fits.list ≡ [] → is_active r.state ≡ true → ShowsAt ([] ∷ [])
     unfolding is_active phase
@@ -142,7 +142,7 @@ module _ (d : Design) (orders : ℕ → List ℕ) (r : RoundState) where
         of_resolutions : (b : Bool) → list_any (nat_lt 0) r.state.resolutions ≡ b → (b || is_some_put r.state.moved) ≡ true → ShowsAt ([] ∷ [])
         of_resolutions true is g =
             let n = any_place (nat_lt 0) 0 r.state.resolutions is in
-            some_entry d (processes d ∷ []) orders (length d.nets) 0 n.0 r.state ([] ∷ []) (omega arith) (omega (arith, n.1, fits.resolutions)) n.2
+            some_entry d (processes d ∷ []) orders (length d.nets) 0 n.0 r.state ([] ∷ []) (omega arith) (omega (arith, n.1, fits.fits.resolutions)) n.2
         of_resolutions false is g = of_moved g
 
         of_evaluations : (b : Bool) → list_any (nat_lt 0) r.state.evaluations ≡ b → (b || (list_any (nat_lt 0) r.state.resolutions || is_some_put r.state.moved)) ≡ true → ShowsAt ([] ∷ [])

@@ -9,7 +9,7 @@ use Rattle.nt_semantics.proofs.Keeping.{move_keeps}
 use Rattle.nt_semantics.proofs.ProcKeeps.{proc_keeps}
 use Rattle.nt_semantics.proofs.StartFitting.{start_fits}
 use Rattle.nt_semantics.proofs.ValueKeeps.{update_keeps}
-use Rattle.nt_semantics.specs.Execution.{expansion, is_active, move, run, settle}
+use Rattle.nt_semantics.specs.Execution.{expansion, is_active, move, run, settle, steps}
 use Rattle.nt_semantics.specs.Laws.{ExecutionFits, StepKeeps}
 use Rattle.nt_semantics.specs.State.{MachineState, count_at, work_at, standing_at, start_state}
 use Rattle.nt_semantics.specs.StateFits.{IsStateOf}
@@ -37,6 +37,13 @@ step_keeps d s t Update design of h = update_keeps d design s t s.moved of.moved
 step_keeps d s t (Resolve n order) design of h =
     let x = from_there (resolve_step d n order s) (slice_get d.nets n) t (there (nat_lt 0 (count_at s.resolutions n)) (option_and_then (resolve_step d n order s) (slice_get d.nets n)) t h) in
     resolve_keeps d design n order s t x.0 x.1 of x.2
+
+-- and so do steps
+pub steps_keep : (d : Design) (events : List Event) (s t : MachineState) → IsDesign d → IsStateOf d s → steps d events s ≡ Some t → IsStateOf d t
+steps_keep d [] s t design of h = subst (IsStateOf d) (same_Some s t h) of
+steps_keep d (e ∷ events) s t design of h =
+    let x = from_there (steps d events) (step d s e) t h in
+    steps_keep d events x.0 t design (step_keeps d s x.0 e design of x.1) x.2
 
 -- the move that is needed keeps one too
 settle_keeps : (until : ℕ) (d : Design) (s : MachineState) → until ≤ 2 ^ 48 → IsDesign d → IsStateOf d s → IsStateOf d (settle until s)

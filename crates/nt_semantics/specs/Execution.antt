@@ -144,6 +144,11 @@ is_entry d entry = entry.count == 1 || (nat_lt 1 entry.count && may_repeat d ent
 abbrev pub enter : Design → MachineState → Entry → Option MachineState
 enter d s entry = only_if (is_entry d entry) (steps d (copies entry) s)
 
+-- these entries one after another, with no move between them
+abbrev pub enter_all : Design → List Entry → MachineState → Option MachineState
+enter_all d [] s = Some s
+enter_all d (entry ∷ entries) s = option_and_then (enter_all d entries) (enter d s entry)
+
 -- the entries stand for an execution up to the time limit, which begins at the start and ends in this state
 pub record Execution (until : ℕ) (d : Design) (entries : List Entry) (end_state : MachineState) : Type 0 where
   pub counted : All (λ (entry : Entry). is_entry d entry ≡ true) entries

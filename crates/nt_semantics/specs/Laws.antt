@@ -4,12 +4,12 @@ use Rattle.std.specs.List.{range_with_len}
 use Rattle.std.specs.List.Sorted.{IsPermutation}
 use Rattle.nt_design.specs.WellFormed.{IsDesign}
 use Rattle.nt_design.specs.declared.design.Design.{Design}
-use Rattle.nt_semantics.specs.Execution.{Execution, is_active, is_over, move, may_repeat, steps, run, expansion, ended, followed, seen}
-use Rattle.nt_semantics.specs.ReadyLists.{IsOther, Listed, OneListed, RoundFits, Shows, is_live}
+use Rattle.nt_semantics.specs.Execution.{Execution, enter_all, is_active, is_over, move, may_repeat, steps, run, expansion, ended, followed, seen}
+use Rattle.nt_semantics.specs.ReadyLists.{IsOther, Listed, OneListed, RoundFits, Shows, StandsOn}
 use Rattle.nt_semantics.specs.Groups.{processes}
 use Rattle.nt_semantics.specs.Rounds.{Away, RoundState, phase, round}
 use Rattle.nt_semantics.specs.declared.process.Process.{Process}
-use Rattle.nt_semantics.specs.Slots.{Few}
+use Rattle.nt_semantics.specs.Slots.{Few, Went}
 use Rattle.nt_semantics.specs.State.{MachineState, start_state, standing_at, fewer}
 use Rattle.nt_semantics.specs.StateFits.{IsStateOf}
 use Rattle.nt_semantics.specs.Step.{step, is_pending, is_order, copies_of}
@@ -67,16 +67,27 @@ abbrev pub AgainChangesNothing : Type 0
 AgainChangesNothing =
     (d : Design) (s t : MachineState) (e : Event) → IsDesign d → IsStateOf d s → may_repeat d e ≡ true → step d s e ≡ Some t → 0 < copies_of t e → step d t e ≡ Some (without t e)
 
+-- Entries that are allowed one after another go on within a slot: they are events of it, the moment stays, and each adds at
+-- most one copy of an event.
+abbrev pub EntriesGo : Type 0
+EntriesGo =
+    (d : Design) (entries : List Entry) (s t : MachineState) → IsDesign d → IsStateOf d s → enter_all d entries s ≡ Some t → Went d s entries None t
+
 -- ---- rounds
+-- the entries of a round are allowed one after another, from its start to its end
+abbrev pub RoundEnters : Type 0
+RoundEnters =
+    (d : Design) (groups : List (List Process)) (orders : ℕ → List ℕ) (r : RoundState) → enter_all d (round d groups orders r).entries r.state ≡ Some (round d groups orders r).after.state
+
 -- the entries of a round are steps from its start to its end, with no move between them
 abbrev pub RoundLeads : Type 0
 RoundLeads =
     (d : Design) (groups : List (List Process)) (orders : ℕ → List ℕ) (r : RoundState) → steps d (expansion (round d groups orders r).entries) r.state ≡ Some (round d groups orders r).after.state
 
--- a procedure that is ready or waiting after an event of another was so before
+-- after an event of another a procedure stands where it stood, or it waited, and is ready or waits on
 abbrev pub OthersWakeTheWaiting : Type 0
 OthersWakeTheWaiting =
-    (d : Design) (s t : MachineState) (e : Event) (p : ℕ) → IsOther p e → step d s e ≡ Some t → is_live (standing_at t p) ≡ true → is_live (standing_at s p) ≡ true
+    (d : Design) (s t : MachineState) (e : Event) (p : ℕ) → IsOther p e → step d s e ≡ Some t → StandsOn (standing_at s p) (standing_at t p)
 
 -- phase Evaluate of one group leaves a right list
 abbrev pub PhaseKeepsLists : Type 0
@@ -92,6 +103,11 @@ RoundKeepsLists =
 abbrev pub RoundShows : Type 0
 RoundShows =
     (d : Design) (orders : ℕ → List ℕ) (r : RoundState) → RoundFits d r → is_active r.state ≡ true → Shows (round d (processes d ∷ []) orders r)
+
+-- a round with one group keeps what is right between rounds
+abbrev pub RoundKeepsFits : Type 0
+RoundKeepsFits =
+    (d : Design) (orders : ℕ → List ℕ) (r : RoundState) → IsDesign d → RoundFits d r → RoundFits d (round d (processes d ∷ []) orders r).after
 
 -- ---- slots
 -- only a state with something in Active has a step

@@ -2,10 +2,11 @@
 use Rattle.std.specs.Prelude.{◌≡◌, ◌⊎◌, ⊤, ℕ, ◌<◌, Bool, true, false, List, [], ◌∷◌, length, IsSome}
 use Rattle.nt_design.specs.declared.design.Design.{Design}
 use Rattle.nt_semantics.specs.Groups.{processes, is_among}
-use Rattle.nt_semantics.specs.Rounds.{RoundState, RoundEnd, is_ready}
+use Rattle.nt_semantics.specs.Rounds.{RoundState, RoundEnd, combs as all_combs, is_ready, is_waiting}
 use Rattle.nt_semantics.specs.State.{MachineState, standing_at}
 use Rattle.nt_semantics.specs.declared.standing.Standing.{Standing}
 use Rattle.nt_semantics.specs.declared.standing.Standing.TheVariants.{Ready, Waits, Unbegun}
+use Rattle.nt_semantics.specs.StateFits.{IsStateOf}
 use Rattle.nt_semantics.specs.Step.{may_begin}
 use Rattle.nt_semantics.specs.declared.event.Event.{Event}
 use Rattle.nt_semantics.specs.declared.event.Event.TheVariants.{Stmt, Assign as AssignEvent, Update, Resolve}
@@ -17,6 +18,10 @@ abbrev pub is_live : Standing → Bool
 is_live Ready = true
 is_live (Waits kept) = true
 is_live _ = false
+
+-- where a procedure stands after an event of another: where it stood, or it waited, and is ready or waits on
+abbrev pub StandsOn : Standing → Standing → Type 0
+StandsOn before after = (after ≡ before) ⊎ ((is_waiting before ≡ true) × (is_live after ≡ true))
 
 -- the event is a step of another procedure, or of none
 abbrev pub IsOther : ℕ → Event → Type 0
@@ -33,17 +38,20 @@ Listed d s xs = (x : Process) → is_among (processes d) x ≡ true → is_ready
 abbrev pub OneListed : Design → MachineState → List (List Process) → Type 0
 OneListed d s ready = (xs : List Process) × (ready ≡ xs ∷ []) × Listed d s xs
 
--- between rounds with one group, after the first: the list is right, each `always_comb` that may begin is on it, no update is
--- on its way, and each column has the design's length
+-- each procedure before its first step stands on this list
+abbrev pub UnbegunListed : MachineState → List Process → Type 0
+UnbegunListed s xs = (p : ℕ) → standing_at s p ≡ Unbegun → is_among xs (Procedure p) ≡ true
+
+-- between rounds with one group, after the first: the list is right, each `always_comb` that may begin is on it, no other
+-- procedure is before its first step, no update is on its way, and the state is one of the design
 pub record RoundFits (d : Design) (r : RoundState) : Type 0 where
   pub list : List Process
   pub is_list : r.ready ≡ list ∷ []
   pub listed : Listed d r.state list
-  pub combs : may_begin r.state ≡ true → (p : ℕ) → standing_at r.state p ≡ Unbegun → is_among list (Procedure p) ≡ true
+  pub combs : may_begin r.state ≡ true → UnbegunListed r.state list
+  pub unbegun : UnbegunListed r.state (all_combs d)
   pub moved : r.state.moved ≡ []
-  pub standings : length r.state.standings ≡ length d.procs
-  pub evaluations : length r.state.evaluations ≡ length d.assigns
-  pub resolutions : length r.state.resolutions ≡ length d.nets
+  pub fits : IsStateOf d r.state
 
 -- an entry, or an event that is too long
 abbrev pub Shows : RoundEnd → Type 0

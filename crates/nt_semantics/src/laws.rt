@@ -1,5 +1,5 @@
 // Laws of the definitions in specs/, each proved of every design and state.
-ghost use Rattle.nt_semantics.specs.Laws.{ExecutionFits, OrdersArePermutations, OnlyPending, AgainChangesNothing, RoundLeads, MoveFills, MoveKeeps, MoveStays, StartFits, StepKeeps, EndedIsFollowed, WitnessIsOne, OthersWakeTheWaiting, PhaseKeepsLists, RoundKeepsLists, RoundShows, OnlyActive, SlotsBeginSmall};
+ghost use Rattle.nt_semantics.specs.Laws.{ExecutionFits, OrdersArePermutations, OnlyPending, AgainChangesNothing, RoundLeads, MoveFills, MoveKeeps, MoveStays, StartFits, StepKeeps, EndedIsFollowed, WitnessIsOne, OthersWakeTheWaiting, PhaseKeepsLists, RoundKeepsLists, RoundShows, OnlyActive, SlotsBeginSmall, RoundEnters, EntriesGo, RoundKeepsFits};
 
 /// The orders that a resolution of n slots may name are the permutations of the numbers below n (4.7).
 pub fn orders_are_permutations()
@@ -62,7 +62,7 @@ pub fn witness_is_one()
     ensures { WitnessIsOne }
 {}
 
-/// An event of another makes ready only a procedure that waited.
+/// After an event of another a procedure stands where it stood, or it waited, and is ready or waits on.
 pub fn others_wake_the_waiting()
     ensures { OthersWakeTheWaiting }
 {}
@@ -90,4 +90,19 @@ pub fn only_active()
 /// A slot that begins is at most at the time limit, with at most one copy of each event.
 pub fn slots_begin_small()
     ensures { SlotsBeginSmall }
+{}
+
+/// The entries of a round are allowed one after another, from its start to its end.
+pub fn round_enters()
+    ensures { RoundEnters }
+{}
+
+/// Entries that are allowed one after another go on within a slot: the moment stays, and each adds at most one copy of an event.
+pub fn entries_go()
+    ensures { EntriesGo }
+{}
+
+/// A round with one group keeps what is right between rounds: its list, and each `always_comb` that may begin on it.
+pub fn round_keeps_fits()
+    ensures { RoundKeepsFits }
 {}
