@@ -1,5 +1,5 @@
 -- Entries that are allowed one after another go on within a slot.
-use Rattle.std.proofs.Common.{◌≡◌, ℕ, ◌+◌, ◌≤◌, Bool, true, false, List, [], ◌∷◌, length, Option, Some, None, option_and_then, refl, sym, ◌∙◌, ap, subst, arith, inl}
+use Rattle.std.proofs.Common.{◌≡◌, ℕ, ◌+◌, ◌≤◌, true, List, [], ◌∷◌, length, Option, Some, None, option_and_then, refl, sym, ◌∙◌, ap, subst, arith, inl}
 use Rattle.std.specs.Prelude.{All}
 use Rattle.std.proofs.lemmas.List.Elements.{All-cons, All-nil}
 use Rattle.std.proofs.lemmas.Option.{same_Some}
@@ -13,7 +13,7 @@ use Rattle.nt_semantics.proofs.StepKeeps.{steps_keep}
 use Rattle.nt_semantics.proofs.Waking.{none_some, of_test}
 use Rattle.nt_semantics.specs.Execution.{copies, enter, enter_all, expansion, is_entry, steps}
 use Rattle.nt_semantics.specs.Laws.{EntriesGo}
-use Rattle.nt_semantics.specs.Slots.{Few, Went, run_here, settle_here}
+use Rattle.nt_semantics.specs.Slots.{Few, run_here}
 use Rattle.nt_semantics.specs.State.{MachineState}
 use Rattle.nt_semantics.specs.StateFits.{IsStateOf}
 use Rattle.nt_semantics.specs.Step.{step}

@@ -1,6 +1,6 @@
 -- What an event adds: at most one evaluation of each assignment, one resolution of each net and one update; and the moment
 -- stays. So does an entry, however many copies it stands for.
-use Rattle.std.proofs.Common.{◌≡◌, ℕ, zero, suc, ◌+◌, ◌<◌, ◌≤◌, Bool, true, false, ◌||◌, ◌&&◌, ◌==◌, if◌then◌else◌, List, [], ◌∷◌, ◌++◌, length, replicate, Option, Some, None, option_and_then, slice_get, slice_set, nat_lt, refl, sym, ◌∙◌, ap, subst, arith, inl, inr, length-append, ne_eqb}
+use Rattle.std.proofs.Common.{◌≡◌, ℕ, zero, suc, ◌+◌, ◌<◌, ◌≤◌, Bool, true, false, ◌||◌, ◌&&◌, ◌==◌, if◌then◌else◌, List, [], ◌∷◌, length, replicate, Option, Some, None, option_and_then, slice_get, slice_set, nat_lt, refl, sym, ◌∙◌, ap, subst, arith, inl, inr, length-append, ne_eqb}
 use Rattle.std.proofs.lemmas.Bool.{false≢true, ltb-true}
 use Rattle.std.proofs.lemmas.Option.{same_Some}
 use Rattle.nt_design.specs.Parts.{Value}
@@ -19,10 +19,10 @@ use Rattle.nt_semantics.specs.Execution.{copies, enter, is_entry, may_repeat, st
 use Rattle.nt_semantics.specs.Laws.{without}
 use Rattle.nt_semantics.specs.Puts.{after_put, leaves_put}
 use Rattle.nt_semantics.specs.Same.{is_same}
-use Rattle.nt_semantics.specs.State.{MachineState, count_at, fewer, locals_at, more, net_shape, standing_at, value_at, work_at}
+use Rattle.nt_semantics.specs.State.{MachineState, count_at, fewer, more, net_shape, standing_at, value_at, work_at}
 use Rattle.nt_semantics.specs.StateFits.{AtMost, IsStateOf}
 use Rattle.nt_semantics.specs.Slots.{Few}
-use Rattle.nt_semantics.specs.Step.{assign_step, contribution, copies_of, do_deed, drive, finishes, is_order, is_pending_at, lines_shown, locals_after, make_step, only_if, proc_step, put_var, resolve_step, set_net, standing_after_deed, step, take_evaluation, take_resolution, update_step, updates_of}
+use Rattle.nt_semantics.specs.Step.{assign_step, contribution, copies_of, do_deed, drive, is_order, is_pending_at, make_step, only_if, proc_step, put_var, resolve_step, set_net, step, take_evaluation, take_resolution, update_step, updates_of}
 use Rattle.nt_semantics.specs.Wake.{one_more_if, reads_at, wake}
 use Rattle.nt_semantics.specs.declared.deed.Deed.{Deed}
 use Rattle.nt_semantics.specs.declared.deed.Deed.TheVariants as deed

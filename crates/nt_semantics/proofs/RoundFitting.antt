@@ -1,6 +1,5 @@
 -- What is right between rounds with one group is right after a round.
-use Rattle.std.proofs.Common.{◌≡◌, ◌⊎◌, inl, inr, ℕ, zero, suc, ◌<◌, ◌≤◌, ◌==◌, Bool, true, false, not, ◌&&◌, ◌||◌, if◌then◌else◌, List, [], ◌∷◌, ◌++◌, length, map, filter, get_or, replicate, slice_set, is_some, Option, Some, None, option_and_then, refl, sym, ◌∙◌, ap, subst, arith, length-set, get_or-set_same}
-use Rattle.std.specs.Bool.{⊤}
+use Rattle.std.proofs.Common.{◌≡◌, inl, inr, ℕ, zero, suc, ◌≤◌, ◌==◌, Bool, true, false, not, ◌&&◌, ◌||◌, if◌then◌else◌, List, [], ◌∷◌, ◌++◌, length, map, filter, get_or, replicate, slice_set, is_some, Option, Some, None, option_and_then, refl, sym, ◌∙◌, ap, subst, arith, length-set, get_or-set_same}
 use Rattle.std.specs.List.{range_with_len}
 use Rattle.std.proofs.lemmas.Bool.{false≢true, eqb-true, eq-eqb}
 use Rattle.std.proofs.lemmas.List.{get_or_past}
@@ -17,11 +16,11 @@ use Rattle.nt_semantics.proofs.Waking.{deed_stands, lt_or_le, none_some, of_test
 use Rattle.nt_semantics.specs.Execution.{copies, enter, expansion, is_entry, steps}
 use Rattle.nt_semantics.specs.Groups.{processes, is_among, is_same_process}
 use Rattle.nt_semantics.specs.Laws.{RoundKeepsFits}
-use Rattle.nt_semantics.specs.ReadyLists.{IsOther, Listed, RoundFits, StandsOn, UnbegunListed, is_live}
-use Rattle.nt_semantics.specs.Rounds.{RoundState, EvaluateEnd, PhaseEnd, ResolveEnd, combs, combs_after, entry_of, evaluate, next_ready, phase, quantum, resolve_after, round, with_new, with_woken, without_evaluations, woken}
+use Rattle.nt_semantics.specs.ReadyLists.{Listed, RoundFits, StandsOn, UnbegunListed, is_live}
+use Rattle.nt_semantics.specs.Rounds.{RoundState, PhaseEnd, ResolveEnd, combs, combs_after, entry_of, evaluate, next_ready, phase, quantum, resolve_after, round, with_new, with_woken, without_evaluations, woken}
 use Rattle.nt_semantics.specs.State.{MachineState, going_on, locals_at, standing_at, work_at}
 use Rattle.nt_semantics.specs.StateFits.{IsStateOf}
-use Rattle.nt_semantics.specs.Step.{do_deed, finishes, is_pending_at, lines_shown, locals_after, make_step, may_begin, only_if, proc_step, standing_after_deed, step, updates_of}
+use Rattle.nt_semantics.specs.Step.{do_deed, finishes, is_pending_at, lines_shown, locals_after, make_step, may_begin, proc_step, standing_after_deed, step, updates_of}
 use Rattle.nt_semantics.specs.declared.deed.Deed.{Deed}
 use Rattle.nt_semantics.specs.declared.deed.Deed.TheVariants as deed
 use Rattle.nt_semantics.specs.declared.event.Event.{Event}
@@ -29,7 +28,7 @@ use Rattle.nt_semantics.specs.declared.event.Event.TheVariants.{Stmt, Assign as 
 use Rattle.nt_semantics.specs.declared.process.Process.{Process}
 use Rattle.nt_semantics.specs.declared.process.Process.TheVariants.{Procedure, Assignment}
 use Rattle.nt_semantics.specs.declared.standing.Standing.{Standing}
-use Rattle.nt_semantics.specs.declared.standing.Standing.TheVariants.{Unbegun, Ready, Inactive, Later, Waits, Over}
+use Rattle.nt_semantics.specs.declared.standing.Standing.TheVariants.{Unbegun, Over}
 use Rattle.nt_semantics.specs.declared.work.Work.{Work}
 use Rattle.nt_semantics.specs.declared.work.Work.TheVariants.{Do, Testing, Stepping, Repeating, Counting, Each, Awaiting}
 

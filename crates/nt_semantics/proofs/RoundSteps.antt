@@ -1,5 +1,5 @@
 -- The entries of a round are allowed one after another, and lead from its start to its end.
-use Rattle.std.proofs.Common.{◌≡◌, ℕ, zero, suc, Bool, true, false, List, [], ◌∷◌, ◌++◌, refl, ap, ◌∙◌}
+use Rattle.std.proofs.Common.{◌≡◌, ℕ, zero, suc, Bool, true, false, List, [], ◌∷◌, ◌++◌, refl, ◌∙◌}
 use Rattle.std.specs.Prelude.{Option, Some, None, option_and_then, ◌==◌, if◌then◌else◌, is_some, length}
 use Rattle.std.specs.List.{range_with_len}
 use Rattle.nt_design.specs.declared.design.Design.{Design}
