@@ -12,7 +12,7 @@ use Rattle.nt_design.specs.Plain.{IsPlain}
 use Rattle.nt_machine.specs.Plain.{IsPlainState}
 use Rattle.nt_semantics.specs.State.{MachineState, start_state}
 use Rattle.nt_semantics.specs.Execution.{Execution, IsComplete, run, expansion, copies, ended, seen, is_active, is_inactive, is_entry, Observation, observation_of}
-use Rattle.nt_semantics.specs.Texts.{entry_line, entry_lines, witness_head, witness_end, witness_text, slot_text, slots_text, end_text, finish_text, last_text, trace_text, IsWritten}
+use Rattle.nt_semantics.specs.Texts.{entry_line, entry_lines, witness_head, witness_end, witness_text, slot_text, slots_text, end_text, finish_text, trace_text, IsWritten}
 use Rattle.nt_semantics.specs.declared.event.Entry.{Entry}
 use Rattle.nettype_sim.specs.Writes.{IsFront, GainsFront, GainsPart, Opened, Filed}
 use Rattle.nettype_sim.specs.Runs.{CutOff, IsLastPart, IsCutWitness, RunsWhole, RunsInPart}

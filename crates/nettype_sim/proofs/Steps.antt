@@ -1,5 +1,5 @@
 -- How a run goes on by one event.
-use Rattle.std.proofs.Common.{◌≡◌, inl, inr, ◌⊎◌, ℕ, zero, suc, ◌+◌, ◌-◌, ◌<◌, ◌≤◌, ◌^◌, Bool, true, false, ◌||◌, ◌&&◌, ◌==◌, nat_lt, lt-ltb, ltb-true, if◌then◌else◌, List, [], ◌∷◌, ◌++◌, length, get_or, Option, Some, None, slice_get, option_and_then, replicate, refl, sym, ◌∙◌, ap, subst, arith, get_or-set_same, get_or-set_other, IsSome}
+use Rattle.std.proofs.Common.{◌≡◌, inl, inr, ◌⊎◌, ℕ, zero, suc, ◌+◌, ◌-◌, ◌<◌, ◌≤◌, ◌^◌, Bool, true, false, ◌||◌, ◌&&◌, ◌==◌, nat_lt, lt-ltb, ltb-true, if◌then◌else◌, List, [], ◌∷◌, ◌++◌, length, Option, Some, None, slice_get, option_and_then, replicate, refl, sym, ◌∙◌, ap, subst, arith, get_or-set_same, get_or-set_other, IsSome}
 use Rattle.std.specs.List.{All, list_any, range_with_len}
 use Rattle.std.proofs.lemmas.Bool.{cases_eq}
 use Rattle.std.proofs.lemmas.List.{flat_map_more, replicate_more, get_or_past, get_or-replicate}
@@ -11,11 +11,11 @@ use Rattle.nt_design.specs.WellFormed.{IsDesign}
 use Rattle.nt_design.specs.declared.design.Design.{Design}
 use Rattle.nt_machine.specs.Plain.{IsPlainState}
 use Rattle.nt_semantics.specs.Same.{is_same}
-use Rattle.nt_semantics.specs.State.{MachineState, start_state, value_at, standing_at, count_at, fewer, more}
+use Rattle.nt_semantics.specs.State.{MachineState, start_state, value_at, count_at, fewer, more}
 use Rattle.nt_semantics.specs.StateFits.{IsStateOf, AtMost}
 use Rattle.nt_semantics.specs.Step.{step, is_pending_at, is_some_put, all_below}
 use Rattle.nt_semantics.specs.Texts.{IsWritten}
-use Rattle.nt_semantics.specs.Execution.{IsComplete, run, settle, is_active, expansion, copies, is_entry, may_repeat, reads_own_target, reads_target}
+use Rattle.nt_semantics.specs.Execution.{IsComplete, run, settle, is_active, expansion, copies, is_entry}
 use Rattle.nt_semantics.specs.declared.event.Event.{Event}
 use Rattle.nt_semantics.specs.declared.event.Event.TheVariants.{Stmt, Assign, Update, Resolve}
 use Rattle.nt_semantics.specs.declared.event.Entry.{Entry}

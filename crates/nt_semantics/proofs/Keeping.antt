@@ -88,7 +88,7 @@ move_stays until d s t is calm h = of_inactive (has_inactive s) refl h
     of_inactive false is_some g = of_updates is_some (is_some_put s.nonblocking) refl g
 
 -- ---- states of a design
-place_mapped : (f : Standing → Standing) → f Over ≡ Over → (places : List Standing) (p : ℕ) → get_or (map f places) p Over ≡ f (get_or places p Over)
+pub place_mapped : (f : Standing → Standing) → f Over ≡ Over → (places : List Standing) (p : ℕ) → get_or (map f places) p Over ≡ f (get_or places p Over)
 place_mapped f over [] p = sym over
 place_mapped f over (standing ∷ places) zero = refl
 place_mapped f over (standing ∷ places) (suc p) = place_mapped f over places p

@@ -29,6 +29,7 @@ pub mod SmallCases
 pub mod StartFitting
 pub mod StepKeeps
 pub mod Sums
+pub mod Tying
 pub mod Unfolding
 pub mod ValueKeeps
 pub mod Waits

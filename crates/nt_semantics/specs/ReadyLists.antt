@@ -1,11 +1,11 @@
 -- When ready lists are right: each process that has an event in Active stands on its list (this project's own).
-use Rattle.std.specs.Prelude.{◌≡◌, ◌⊎◌, ⊤, ℕ, ◌<◌, Bool, true, false, List, [], ◌∷◌, length, IsSome}
+use Rattle.std.specs.Prelude.{◌≡◌, ◌↔◌, ◌⊎◌, ⊤, ℕ, ◌<◌, Bool, true, false, List, [], ◌∷◌, length, Contains, IsSome}
 use Rattle.nt_design.specs.declared.design.Design.{Design}
 use Rattle.nt_semantics.specs.Groups.{processes, is_among}
-use Rattle.nt_semantics.specs.Rounds.{RoundState, RoundEnd, combs as all_combs, is_ready, is_waiting}
+use Rattle.nt_semantics.specs.Rounds.{Away, RoundState, RoundEnd, procs_at, combs as all_combs, is_ready, is_waiting}
 use Rattle.nt_semantics.specs.State.{MachineState, standing_at}
 use Rattle.nt_semantics.specs.declared.standing.Standing.{Standing}
-use Rattle.nt_semantics.specs.declared.standing.Standing.TheVariants.{Ready, Waits, Unbegun}
+use Rattle.nt_semantics.specs.declared.standing.Standing.TheVariants.{Unbegun, Ready, Inactive, Later, Waits}
 use Rattle.nt_semantics.specs.StateFits.{IsStateOf}
 use Rattle.nt_semantics.specs.Step.{may_begin}
 use Rattle.nt_semantics.specs.declared.event.Event.{Event}
@@ -52,6 +52,11 @@ pub record RoundFits (d : Design) (r : RoundState) : Type 0 where
   pub unbegun : UnbegunListed r.state (all_combs d)
   pub moved : r.state.moved ≡ []
   pub fits : IsStateOf d r.state
+
+-- the procedures that were put away are those in Inactive, and those in the slots of later moments, each on its list
+pub record Tied (s : MachineState) (away : Away) : Type 0 where
+  pub inactive : (p : ℕ) → Contains away.inactive p ↔ (standing_at s p ≡ Inactive)
+  pub later : (at p : ℕ) → Contains (procs_at at away.later) p ↔ (standing_at s p ≡ Later at)
 
 -- an entry, or an event that is too long
 abbrev pub Shows : RoundEnd → Type 0

@@ -1,5 +1,5 @@
 // Laws of the definitions in specs/, each proved of every design and state.
-ghost use Rattle.nt_semantics.specs.Laws.{ExecutionFits, OrdersArePermutations, OnlyPending, AgainChangesNothing, RoundLeads, MoveFills, MoveKeeps, MoveStays, StartFits, StepKeeps, EndedIsFollowed, WitnessIsOne, OthersWakeTheWaiting, PhaseKeepsLists, RoundKeepsLists, RoundShows, OnlyActive, SlotsBeginSmall, RoundEnters, EntriesGo, RoundKeepsFits};
+ghost use Rattle.nt_semantics.specs.Laws.{ExecutionFits, OrdersArePermutations, OnlyPending, AgainChangesNothing, RoundLeads, MoveFills, MoveKeeps, MoveStays, StartFits, StepKeeps, EndedIsFollowed, WitnessIsOne, OthersWakeTheWaiting, PhaseKeepsLists, RoundKeepsLists, RoundShows, OnlyActive, SlotsBeginSmall, RoundEnters, EntriesGo, RoundKeepsFits, RoundKeepsTied, ActivationKeepsTied, BeginKeepsTied};
 
 /// The orders that a resolution of n slots may name are the permutations of the numbers below n (4.7).
 pub fn orders_are_permutations()
@@ -105,4 +105,19 @@ pub fn entries_go()
 /// A round with one group keeps what is right between rounds: its list, and each `always_comb` that may begin on it.
 pub fn round_keeps_fits()
     ensures { RoundKeepsFits }
+{}
+
+/// Rounds keep the procedures that were put away on their lists.
+pub fn round_keeps_tied()
+    ensures { RoundKeepsTied }
+{}
+
+/// So does the move that brings back those in Inactive.
+pub fn activation_keeps_tied()
+    ensures { ActivationKeepsTied }
+{}
+
+/// So does the move that brings back those of a later moment.
+pub fn begin_keeps_tied()
+    ensures { BeginKeepsTied }
 {}
