@@ -1,6 +1,6 @@
 -- The lists of the procedures that were put away stay right.
 use Rattle.std.proofs.Common.{◌≡◌, ◌↔◌, ◌⊎◌, inl, inr, ℕ, zero, suc, ◌==◌, nat_lt, Bool, true, false, not, if◌then◌else◌, List, [], ◌∷◌, ◌++◌, length, replicate, is_some, Option, Some, None, option_and_then, refl, sym, ◌∙◌, ap, subst, arith}
-use Rattle.std.specs.Prelude.{Contains}
+use Rattle.std.specs.Prelude.{nat_le, Contains}
 use Rattle.std.specs.List.{range_with_len}
 use Rattle.std.proofs.lemmas.Bool.{false≢true, eqb-true, eq-eqb}
 use Rattle.std.proofs.lemmas.List.Elements.{Contains-append_cases, Contains-append_left, Contains-append_right, Contains-push, Contains-push_cases}
@@ -10,14 +10,15 @@ use Rattle.nt_semantics.proofs.Growing.{test_is}
 use Rattle.nt_semantics.proofs.Keeping.{place_mapped}
 use Rattle.nt_semantics.proofs.Listing.{entered}
 use Rattle.nt_semantics.proofs.Waking.{none_some, others_leave, others_stay}
-use Rattle.nt_semantics.specs.Execution.{activate, active_standing, begin_slot, copies, enter, if_some, is_entry, standing_in_slot, steps}
-use Rattle.nt_semantics.specs.Laws.{ActivationKeepsTied, BeginKeepsTied, RoundKeepsTied}
+use Rattle.nt_semantics.specs.Execution.{activate, active_standing, begin_slot, copies, enter, if_some, is_entry, standing_in_slot, steps, begin_next, has_inactive, move_updates, next_moment}
+use Rattle.nt_semantics.specs.Laws.{RegionKeepsTied, RoundKeepsTied, SlotKeepsTied}
 use Rattle.nt_semantics.specs.ReadyLists.{IsOther, Tied, is_live}
-use Rattle.nt_semantics.specs.Rounds.{Away, PhaseEnd, ResolveEnd, TooLong, and_before, away_after, entry_of, evaluate, is_waiting, marks_of, net_entry, next_ready, phase, procs_at, put_away, quantum, resolve_nets, round, stops, with_entry, with_later, with_woken, without_moment, woken}
+use Rattle.nt_semantics.specs.Rounds.{Away, RoundState, PhaseEnd, ResolveEnd, RoundEnd, TooLong, after_activation, after_begin, and_before, away_after, entry_of, evaluate, is_waiting, marks_of, net_entry, next_ready, next_region, next_slot, perform, phase, procs_at, put_away, quantum, resolve_nets, round, stops, update_round, with_entry, with_later, with_woken, without_entries, without_moment, woken}
 use Rattle.nt_semantics.specs.State.{MachineState, count_at, standing_at, work_at}
-use Rattle.nt_semantics.specs.Step.{is_pending_at, proc_step, step}
+use Rattle.nt_semantics.specs.Step.{is_pending_at, proc_step, step, is_some_put}
+use Rattle.nt_semantics.specs.declared.deed.Put.{Put}
 use Rattle.nt_semantics.specs.declared.event.Event.{Event}
-use Rattle.nt_semantics.specs.declared.event.Event.TheVariants.{Stmt, Assign as AssignEvent, Resolve}
+use Rattle.nt_semantics.specs.declared.event.Event.TheVariants.{Stmt, Assign as AssignEvent, Update, Resolve}
 use Rattle.nt_semantics.specs.declared.process.Process.{Process}
 use Rattle.nt_semantics.specs.declared.process.Process.TheVariants.{Procedure, Assignment}
 use Rattle.nt_semantics.specs.declared.standing.Standing.{Standing}
@@ -343,7 +344,7 @@ activated_later (Later m) at = (λ h. h, λ h. h)
 activated_later (Waits kept) at = (λ h. h, λ h. h)
 activated_later Over at = (λ h. h, λ h. h)
 
-pub activation_tied : ActivationKeepsTied
+activation_tied : (groups : List (List Process)) (r : RoundState) → Tied r.state r.away → Tied (after_activation groups r).state (after_activation groups r).away
 activation_tied groups r tied = record {
   inactive = λ p. (λ c. none_in p c, λ h. absurd (activated_inactive (standing_at r.state p) (sym (place_mapped active_standing refl r.state.standings p) ∙ h)));
   later = λ at p. through (tied.later at p) (through (activated_later (standing_at r.state p) at) (same_at at p));
@@ -420,7 +421,7 @@ without_in m at p (slot ∷ later) = of_test (without_in m at p later) (slot.0 =
       ],
     )
 
-pub begin_tied : BeginKeepsTied
+begin_tied : (groups : List (List Process)) (r : RoundState) (m : ℕ) → Tied r.state r.away → Tied (after_begin groups r (begin_slot m r.state)).state (after_begin groups r (begin_slot m r.state)).away
 begin_tied groups r m tied = record {
   inactive = λ p. through (tied.inactive p) (through (begun_inactive m (standing_at r.state p)) (same_inactive p));
   later = λ at p. through (without_in m at p r.away.later) (both at p);
@@ -437,3 +438,62 @@ begin_tied groups r m tied = record {
       λ c. same p ∙ (begun_later m at (standing_at r.state p)).1 ((tied.later at p).0 c.0, c.1),
       λ h. let x = (begun_later m at (standing_at r.state p)).0 (sym (same p) ∙ h) in ((tied.later at p).1 x.0, x.1),
     )
+
+-- ---- the next region, the next slot
+tied_update : (d : Design) (s t : MachineState) (away : Away) → step d s Update ≡ Some t → Tied s away → Tied t away
+tied_update d s t away is tied = record {
+  inactive = λ p. through (tied.inactive p) (parked d Update 1 s t p Inactive refl refl tt run);
+  later = λ at p. through (tied.later at p) (parked d Update 1 s t p (Later at) refl refl tt run);
+}
+  where
+    run : steps d (replicate 1 Update) s ≡ Some t
+    run = ap (option_and_then (steps d [])) is
+
+perform_tied : (d : Design) (groups : List (List Process)) (puts : List Put) (r : RoundState) → Tied r.state r.away → Tied (perform d groups puts r).state (perform d groups puts r).away
+perform_tied d groups [] r tied = tied
+perform_tied d groups (put ∷ puts) r tied =
+    of_step (λ t k. perform_tied d groups puts (record r { state = t; ready = with_woken groups (woken d r.state t) r.ready }) k) (step d r.state Update) refl
+  where
+    goes : MachineState → RoundState
+    goes t = perform d groups puts (record r { state = t; ready = with_woken groups (woken d r.state t) r.ready })
+
+    of_step : ((t : MachineState) → Tied t r.away → Tied (goes t).state (goes t).away) → (o : Option MachineState) → step d r.state Update ≡ o → Tied (if_some r goes o).state (if_some r goes o).away
+    of_step rest None is = tied
+    of_step rest (Some t) is = rest t (tied_update d r.state t r.away is tied)
+
+pub region_tied : RegionKeepsTied
+unfolding next_region
+region_tied d groups r e tied = of_inactive (has_inactive r.state)
+  where
+    updates : RoundEnd
+    updates = update_round d groups r
+
+    of_updates : (b : Bool) → (if b then Some updates else None) ≡ Some e → Tied e.after.state e.after.away
+    of_updates false h = absurd (none_some e h)
+    of_updates true h =
+        subst (λ (x : RoundEnd). Tied x.after.state x.after.away) (same_Some updates e h) (perform_tied d groups r.state.nonblocking (record r { state = move_updates r.state }) (record { inactive = tied.inactive; later = tied.later }))
+
+    of_inactive : (b : Bool) → (if b then Some (without_entries (after_activation groups r)) else (if is_some_put r.state.nonblocking then Some updates else None)) ≡ Some e → Tied e.after.state e.after.away
+    of_inactive true h =
+        subst (λ (x : RoundEnd). Tied x.after.state x.after.away) (same_Some (without_entries (after_activation groups r)) e h) (activation_tied groups r tied)
+    of_inactive false h = of_updates (is_some_put r.state.nonblocking) h
+
+pub slot_tied : SlotKeepsTied
+unfolding next_slot
+slot_tied until groups r e tied = of_finish r.state.finished
+  where
+    of_state : Option MachineState → Option RoundEnd
+    of_state o = if_some None (λ s. Some (without_entries (after_begin groups r s))) o
+
+    of_limit : (m : ℕ) (b : Bool) → of_state (if b then Some (begin_slot m r.state) else None) ≡ Some e → Tied e.after.state e.after.away
+    of_limit m false h = absurd (none_some e h)
+    of_limit m true h =
+        subst (λ (x : RoundEnd). Tied x.after.state x.after.away) (same_Some (without_entries (after_begin groups r (begin_slot m r.state))) e h) (begin_tied groups r m tied)
+
+    of_moment : (o : Option ℕ) → of_state (begin_next until r.state o) ≡ Some e → Tied e.after.state e.after.away
+    of_moment None h = absurd (none_some e h)
+    of_moment (Some m) h = of_limit m (nat_le m until) h
+
+    of_finish : (b : Bool) → (if b then None else of_state (begin_next until r.state (next_moment r.state.standings))) ≡ Some e → Tied e.after.state e.after.away
+    of_finish true h = absurd (none_some e h)
+    of_finish false h = of_moment (next_moment r.state.standings) h

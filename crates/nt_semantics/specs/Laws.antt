@@ -4,10 +4,10 @@ use Rattle.std.specs.List.{range_with_len}
 use Rattle.std.specs.List.Sorted.{IsPermutation}
 use Rattle.nt_design.specs.WellFormed.{IsDesign}
 use Rattle.nt_design.specs.declared.design.Design.{Design}
-use Rattle.nt_semantics.specs.Execution.{Execution, enter_all, is_active, is_over, move, may_repeat, steps, run, expansion, ended, followed, seen, begin_slot}
+use Rattle.nt_semantics.specs.Execution.{Execution, enter_all, is_active, is_over, move, may_repeat, steps, run, expansion, ended, followed, seen}
 use Rattle.nt_semantics.specs.ReadyLists.{IsOther, Listed, OneListed, RoundFits, Shows, StandsOn, Tied}
 use Rattle.nt_semantics.specs.Groups.{processes}
-use Rattle.nt_semantics.specs.Rounds.{Away, RoundState, phase, round, after_activation, after_begin}
+use Rattle.nt_semantics.specs.Rounds.{Away, RoundState, phase, round, RoundEnd, next_region, next_slot}
 use Rattle.nt_semantics.specs.declared.process.Process.{Process}
 use Rattle.nt_semantics.specs.Slots.{Few, Went}
 use Rattle.nt_semantics.specs.State.{MachineState, start_state, standing_at, fewer}
@@ -109,18 +109,18 @@ abbrev pub RoundKeepsFits : Type 0
 RoundKeepsFits =
     (d : Design) (orders : ℕ → List ℕ) (r : RoundState) → IsDesign d → RoundFits d r → RoundFits d (round d (processes d ∷ []) orders r).after
 
--- rounds keep the procedures that were put away on their lists, and so do the moves that bring them back
+-- rounds keep the procedures that were put away on their lists, and so do the next region and the next slot
 abbrev pub RoundKeepsTied : Type 0
 RoundKeepsTied =
     (d : Design) (groups : List (List Process)) (orders : ℕ → List ℕ) (r : RoundState) → Tied r.state r.away → Tied (round d groups orders r).after.state (round d groups orders r).after.away
 
-abbrev pub ActivationKeepsTied : Type 0
-ActivationKeepsTied =
-    (groups : List (List Process)) (r : RoundState) → Tied r.state r.away → Tied (after_activation groups r).state (after_activation groups r).away
+abbrev pub RegionKeepsTied : Type 0
+RegionKeepsTied =
+    (d : Design) (groups : List (List Process)) (r : RoundState) (e : RoundEnd) → Tied r.state r.away → next_region d groups r ≡ Some e → Tied e.after.state e.after.away
 
-abbrev pub BeginKeepsTied : Type 0
-BeginKeepsTied =
-    (groups : List (List Process)) (r : RoundState) (moment : ℕ) → Tied r.state r.away → Tied (after_begin groups r (begin_slot moment r.state)).state (after_begin groups r (begin_slot moment r.state)).away
+abbrev pub SlotKeepsTied : Type 0
+SlotKeepsTied =
+    (until : ℕ) (groups : List (List Process)) (r : RoundState) (e : RoundEnd) → Tied r.state r.away → next_slot until groups r ≡ Some e → Tied e.after.state e.after.away
 
 -- ---- slots
 -- only a state with something in Active has a step

@@ -1,5 +1,5 @@
 // Laws of the definitions in specs/, each proved of every design and state.
-ghost use Rattle.nt_semantics.specs.Laws.{ExecutionFits, OrdersArePermutations, OnlyPending, AgainChangesNothing, RoundLeads, MoveFills, MoveKeeps, MoveStays, StartFits, StepKeeps, EndedIsFollowed, WitnessIsOne, OthersWakeTheWaiting, PhaseKeepsLists, RoundKeepsLists, RoundShows, OnlyActive, SlotsBeginSmall, RoundEnters, EntriesGo, RoundKeepsFits, RoundKeepsTied, ActivationKeepsTied, BeginKeepsTied};
+ghost use Rattle.nt_semantics.specs.Laws.{ExecutionFits, OrdersArePermutations, OnlyPending, AgainChangesNothing, RoundLeads, MoveFills, MoveKeeps, MoveStays, StartFits, StepKeeps, EndedIsFollowed, WitnessIsOne, OthersWakeTheWaiting, PhaseKeepsLists, RoundKeepsLists, RoundShows, OnlyActive, SlotsBeginSmall, RoundEnters, EntriesGo, RoundKeepsFits, RoundKeepsTied, RegionKeepsTied, SlotKeepsTied};
 
 /// The orders that a resolution of n slots may name are the permutations of the numbers below n (4.7).
 pub fn orders_are_permutations()
@@ -112,12 +112,12 @@ pub fn round_keeps_tied()
     ensures { RoundKeepsTied }
 {}
 
-/// So does the move that brings back those in Inactive.
-pub fn activation_keeps_tied()
-    ensures { ActivationKeepsTied }
+/// So does the next region.
+pub fn region_keeps_tied()
+    ensures { RegionKeepsTied }
 {}
 
-/// So does the move that brings back those of a later moment.
-pub fn begin_keeps_tied()
-    ensures { BeginKeepsTied }
+/// So does the next slot.
+pub fn slot_keeps_tied()
+    ensures { SlotKeepsTied }
 {}
