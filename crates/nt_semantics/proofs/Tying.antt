@@ -16,7 +16,7 @@ use Rattle.nt_semantics.specs.ReadyLists.{IsOther, Tied, is_live}
 use Rattle.nt_semantics.specs.Rounds.{Away, RoundState, PhaseEnd, ResolveEnd, RoundEnd, TooLong, after_activation, after_begin, and_before, away_after, entry_of, evaluate, is_waiting, marks_of, net_entry, next_ready, next_region, next_slot, perform, phase, procs_at, put_away, quantum, resolve_nets, round, stops, update_round, with_entry, with_later, with_woken, without_entries, without_moment, woken}
 use Rattle.nt_semantics.specs.State.{MachineState, count_at, standing_at, work_at}
 use Rattle.nt_semantics.specs.Step.{is_pending_at, proc_step, step, is_some_put}
-use Rattle.nt_semantics.specs.declared.deed.Put.{Put}
+use Rattle.nt_design.specs.declared.put.Put.{Put}
 use Rattle.nt_semantics.specs.declared.event.Event.{Event}
 use Rattle.nt_semantics.specs.declared.event.Event.TheVariants.{Stmt, Assign as AssignEvent, Update, Resolve}
 use Rattle.nt_semantics.specs.declared.process.Process.{Process}
