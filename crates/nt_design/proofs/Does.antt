@@ -178,6 +178,7 @@ module _ (scope : Scope) (result : Shaped) (calls : Calls) (world : World) (name
       (λ e j is. body_keeps e.1 go k e.0 is j))
 
   loop_of_keeps : (n : ℕ) (test : Timing Value) (step body : Doing) → Keeps scope step → Keeps scope body → Keeps scope (loop_of n test step body)
+  unfolding loop_of
   loop_of_keeps zero test step body h k locals ok left = tt
   loop_of_keeps (suc n) test step body h k locals ok left =
       then_any (test locals left)
@@ -187,13 +188,16 @@ module _ (scope : Scope) (result : Shaped) (calls : Calls) (world : World) (name
       ok ok)
 
   loop_keeps : (test : Timing Value) (step body : Doing) → Keeps scope step → Keeps scope body → Keeps scope (loop test step body)
+  unfolding loop
   loop_keeps test step body h k locals ok left = loop_of_keeps (suc left) test step body h k locals ok left
 
   repeat_keeps : (n : ℕ) (body : Doing) → Keeps scope body → Keeps scope (repeat_of n body)
+  unfolding repeat_of
   repeat_keeps zero body h locals ok left = ok
   repeat_keeps (suc n) body h locals ok left = iterate_keeps body (repeat_of n body) h (repeat_keeps n body h) locals ok left
 
   each_keeps : (indices : List ℕ) (i : ℕ) (body : Doing) → slice_get scope.locals i ≡ Some (int_leaf ∷ []) → Keeps scope body → Keeps scope (each_of indices i body)
+  unfolding each_of
   each_keeps [] i body at h locals ok left = ok
   each_keeps (index ∷ indices) i body at h locals ok left =
       iterate_keeps body (each_of indices i body) h (each_keeps indices i body at h) (slice_set locals i (int_value index))
@@ -235,6 +239,7 @@ module _ (scope : Scope) (result : Shaped) (calls : Calls) (world : World) (name
   opened_arms arms = map (λ (arm : Arm). (arm.0, arm.1.0)) arms
 
   arms_keep : (test : Shaped) (t : Value) (arms : List Arm) (other : Doing) → list_all (arm_fits scope test) (map (λ (arm : List Tree × Act). (arm.0, act_fits scope result arm.1)) (opened_arms arms)) ≡ true → Keeps scope other → Keeps scope (first_arm calls world t (map (λ (arm : List Tree × Act). (arm.0, does calls world name arm.1)) (opened_arms arms)) other)
+  unfolding first_arm
   arms_keep test t [] other h k locals ok left = k locals ok left
   arms_keep test t (arm ∷ arms) other h k locals ok left =
       let parts = and_parts (arm_fits scope test (arm.0, act_fits scope result arm.1.0)) (list_all (arm_fits scope test) (map (λ (arm : List Tree × Act). (arm.0, act_fits scope result arm.1)) (opened_arms arms))) h in

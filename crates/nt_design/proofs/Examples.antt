@@ -8,7 +8,7 @@ use Rattle.nt_value.specs.Operators.{unsigned_leaf}
 use Rattle.nt_design.specs.Parts.{Value, one, part_at, with_part, written, position_of, item_at, number_in, int_value, concatenated, merged, IntoItem, IntoLeaves, IntoPart}
 use Rattle.nt_design.specs.Puts.{put_of}
 use Rattle.nt_design.specs.declared.put.Put.{Put}
-use Rattle.nt_design.specs.Statements.{nothing, loop, always, repeat_of, indices_of, count_of, each_of}
+use Rattle.nt_design.specs.Statements.{nothing, loop, loop_of, always, repeat_of, indices_of, count_of, each_of}
 use Rattle.nt_design.specs.declared.act.Flow.TheVariants.{Next}
 
 -- digits of four states, the least significant first
@@ -87,12 +87,15 @@ merge = refl
 
 -- loops and their turns
 without_end : loop always nothing nothing [] 5 ≡ None
+unfolding loop loop_of
 without_end = refl
 
 as_many : repeat_of 5 nothing [] 5 ≡ Some (([], Next), 0)
+unfolding repeat_of
 as_many = refl
 
 one_more : repeat_of 6 nothing [] 5 ≡ None
+unfolding repeat_of
 one_more = refl
 
 down : indices_of 0 (Some (3, 1)) ≡ 3 ∷ 2 ∷ 1 ∷ []
@@ -105,6 +108,7 @@ all : indices_of 2 None ≡ 0 ∷ 1 ∷ []
 all = refl
 
 last_index : each_of (0 ∷ 1 ∷ []) 0 nothing (int_value 7 ∷ []) 5 ≡ Some ((int_value 1 ∷ [], Next), 3)
+unfolding each_of
 last_index = refl
 
 negative : count_of (number_in (one (record { leaf = record { width = 2; signed = true; four = true }; digits = Zero ∷ One ∷ [] }))) ≡ 0

@@ -6,6 +6,7 @@ pub mod Constants
 pub mod Filled
 pub mod Frame
 pub mod Inside
+pub mod Loops
 pub mod Overlay
 pub mod Puts
 pub mod Results

@@ -78,18 +78,18 @@ abbrev pub iterate : Doing → Doing → Doing
 iterate body go locals left = spend left (λ l. and_then (body locals l) (λ e k. after_body e.1 go e.0 k))
 
 -- a loop with a test and a step, of fewer than n iterations: an unknown test ends it (12.7.1, 12.7.4)
-abbrev pub loop_of : ℕ → Timing Value → Doing → Doing → Doing
+unfoldable pub loop_of : ℕ → Timing Value → Doing → Doing → Doing
 loop_of zero test step body locals left = None
 loop_of (suc n) test step body locals left =
     and_then (test locals left) (λ t l.
     pick (test_of t) (iterate body (one_then step (loop_of n test step body)) locals l) (nothing locals l) (nothing locals l))
 
 -- a loop that its turns end
-abbrev pub loop : Timing Value → Doing → Doing → Doing
+unfoldable pub loop : Timing Value → Doing → Doing → Doing
 loop test step body locals left = loop_of (suc left) test step body locals left
 
 -- so many iterations (12.7.2)
-abbrev pub repeat_of : ℕ → Doing → Doing
+unfoldable pub repeat_of : ℕ → Doing → Doing
 repeat_of zero body locals left = nothing locals left
 repeat_of (suc n) body locals left = iterate body (repeat_of n body) locals left
 
@@ -100,7 +100,7 @@ count_of (Some (pos n)) = n
 count_of (Some (negsuc n)) = 0
 
 -- an iteration for each index in order, which a local holds (12.7.3)
-abbrev pub each_of : List ℕ → ℕ → Doing → Doing
+unfoldable pub each_of : List ℕ → ℕ → Doing → Doing
 each_of [] i body locals left = nothing locals left
 each_of (index ∷ indices) i body locals left =
     iterate body (each_of indices i body) (slice_set locals i (int_value index)) left
@@ -133,13 +133,13 @@ or_nothing None locals left = nothing locals left
 or_nothing (Some d) locals left = d locals left
 
 -- whether one of a case's items is the same as its test: items in order, up to the first that is (12.5)
-abbrev pub is_among : Value → List (Timing Value) → Timing Bool
+unfoldable pub is_among : Value → List (Timing Value) → Timing Bool
 is_among test [] locals left = Some (false, left)
 is_among test (item ∷ items) locals left =
     and_then (item locals left) (λ v l. if is_same_value test v then Some (true, l) else is_among test items locals l)
 
 -- the first arm with such an item, or the default (12.5)
-abbrev pub first_arm : Calls → World → Value → List (List Tree × Doing) → Doing → Doing
+unfoldable pub first_arm : Calls → World → Value → List (List Tree × Doing) → Doing → Doing
 first_arm calls world test [] other locals left = other locals left
 first_arm calls world test (arm ∷ arms) other locals left =
     and_then (is_among test (map (value_of calls world) arm.0) locals left) (λ is l.

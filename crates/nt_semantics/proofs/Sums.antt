@@ -9,7 +9,7 @@ use Rattle.nt_design.proofs.Values.{value_const, value_local, value_binary, valu
 use Rattle.nt_design.specs.Expressions.{World, Calls, value_of}
 use Rattle.nt_design.specs.Meaning.{calls_to, own_world}
 use Rattle.nt_design.specs.Parts.{Value, only, one, int_leaf, int_value, number_in, position_of, element_at}
-use Rattle.nt_design.specs.Statements.{does}
+use Rattle.nt_design.specs.Statements.{each_of, does}
 use Rattle.nt_design.specs.declared.act.Act as act
 use Rattle.nt_design.specs.declared.act.Act.{Act}
 use Rattle.nt_design.specs.declared.act.Act.TheViews as act_view
@@ -77,6 +77,7 @@ clears_is calls world s k left =
 
 -- two elements: two iterations
 for_each_is : (calls : Calls) (a b s k : Value) (left : ℕ) → does calls (own_world sum (a ∷ b ∷ [])) 0 for_each (s ∷ k ∷ []) (suc (suc left)) ≡ Some ((added (added s a) b ∷ int_value 1 ∷ [], Next), left)
+unfolding each_of
 for_each_is calls a b s k left =
     does_foreach calls (own_world sum (a ∷ b ∷ [])) 0 None 1 adds here (s ∷ k ∷ []) (suc (suc left))
     ∙ rw (adds_is calls (own_world sum (a ∷ b ∷ [])) s (int_value 0) (suc left), adds_is calls (own_world sum (a ∷ b ∷ [])) (added s a) (int_value 1) left) refl
