@@ -111,4 +111,3 @@ fn a_very_deep_tree_is_read_and_copied(rt: HostRuntime) -> Result<(), Fail> {
     assert!(rt; is_read_and_copied(alloc, text.items())?);
     Ok(())
 }
-

@@ -624,4 +624,3 @@ pub(crate) fn name_line(alloc: Global, known: &mut Constants, line: &str) -> Res
     known.insert(Name::from_slice(alloc, name.as_bytes())?, bits)?;
     Ok(())
 }
-

@@ -39,7 +39,11 @@ pub(crate) fn unescaped(alloc: Global, text: &str) -> Result<Text, AllocError> {
 }
 
 fn hex_code(digit: u8) -> u8 {
-    if digit < 10 { b'0' + digit } else { b'a' + (digit & 15) - 10 }
+    if digit < 10 {
+        b'0' + digit
+    } else {
+        b'a' + (digit & 15) - 10
+    }
 }
 
 fn push_escaped(byte: u8, out: &mut Text) -> Result<(), AllocError> {

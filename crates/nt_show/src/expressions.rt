@@ -153,4 +153,3 @@ fn say_items(parts: &Items<(Option<Key>, Expr)>, out: &mut Text) -> Result<(), A
     }
     out.push(b'}')
 }
-

@@ -37,12 +37,21 @@ fn long_text(alloc: Global, line: &str) -> Result<Text, Unread> {
 }
 
 /// Adds whether all of the text is what it is asked to be.
-pub(crate) fn tell_limit(alloc: Global, sort: Sort, line: &str, out: &mut Text) -> Result<(), Unread> {
+pub(crate) fn tell_limit(
+    alloc: Global,
+    sort: Sort,
+    line: &str,
+    out: &mut Text,
+) -> Result<(), Unread> {
     let text = long_text(alloc, line)?;
     let is = match sort {
         Sort::Expression => is_expression(alloc, text.items())?,
         Sort::Statement => is_statement(alloc, text.items())?,
     };
-    out.push_bytes(if is { b"yes".as_slice() } else { b"no".as_slice() })?;
+    out.push_bytes(if is {
+        b"yes".as_slice()
+    } else {
+        b"no".as_slice()
+    })?;
     Ok(())
 }

@@ -215,4 +215,3 @@ pub(crate) fn say_stmt(stmt: &Stmt, out: &mut Text) -> Result<(), AllocError> {
         Stmt::Finish { at } => begin(*at, b"finish", out),
     }
 }
-

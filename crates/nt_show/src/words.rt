@@ -108,4 +108,3 @@ pub(crate) fn begin(at: Place, opening: &[u8], out: &mut Text) -> Result<(), All
     out.push(b':')?;
     out.push_bytes(opening)
 }
-
