@@ -5,7 +5,8 @@ use Rattle.nt_value.specs.Operators.{unsigned_leaf, resize_of, unary_of, binary_
 use Rattle.nt_value.specs.declared.leaf.Leaf.{Leaf}
 use Rattle.nt_ast.specs.declared.expr.Expr.{Expr}
 use Rattle.nt_const.specs.Tables.{with_sign, bit, unary_leaf, unary_in, binary_leaf, left_in, right_in, choice_leaf, literal_in, count_of, width_of, taken, indexed_of, joint, times}
-use Rattle.nt_const.specs.Rules.{Names, Node, Alone, literal, read, item, part, indexed, unary, binary, choose, concat, repeated, sign, Parts, none, more, Within, literal_within, read_within, item_within, part_within, indexed_within, unary_within, binary_within, choose_within, concat_within, repeated_within, sign_within, Own, itself, Owns, no_values, more_values}
+use Rattle.nt_ast.specs.Places.{Node}
+use Rattle.nt_const.specs.Rules.{Names, Alone, literal, read, item, part, indexed, unary, binary, choose, concat, repeated, sign, Parts, none, more, Within, literal_within, read_within, item_within, part_within, indexed_within, unary_within, binary_within, choose_within, concat_within, repeated_within, sign_within, Own, itself, Owns, no_values, more_values}
 
 pub ap2 : {A B C : Type 0} (f : A → B → C) {a c : A} {b d : B} → a ≡ c → b ≡ d → f a b ≡ f c d
 ap2 f {a = a} {c = c} {b = b} {d = d} e g = ap (λ a. f a b) e ∙ ap (f c) g

@@ -19,7 +19,8 @@ use Rattle.nt_const.specs.declared.draft.Draft.{Draft}
 use Rattle.nt_const.specs.declared.walk.Several.{Several}
 use Rattle.nt_const.specs.Tables.{with_sign, bit, binary_leaf, choice_leaf, unary_leaf, Counts, IsKnown, IsWidth, count_of, width_of, indexed_of, joint, joint_from, path_name}
 use Rattle.nt_const.specs.Drafts.{OfLiteral, OfClosed, OfUnary, OfBinary, OfChoose, draft_leaf, draft_value, own_value, IsMemory}
-use Rattle.nt_const.specs.Rules.{Names, Node, Alone, literal, read, item, part, indexed, unary, binary, choose, concat, repeated, sign, Parts, none, more, Within, literal_within, read_within, item_within, part_within, indexed_within, unary_within, binary_within, choose_within, concat_within, repeated_within, sign_within, Own, itself, Owns, no_values, more_values, bad_width, bad_product, bad_range, bad_indexed, Need, free, count}
+use Rattle.nt_ast.specs.Places.{Node}
+use Rattle.nt_const.specs.Rules.{Names, Alone, literal, read, item, part, indexed, unary, binary, choose, concat, repeated, sign, Parts, none, more, Within, literal_within, read_within, item_within, part_within, indexed_within, unary_within, binary_within, choose_within, concat_within, repeated_within, sign_within, Own, itself, Owns, no_values, more_values, bad_width, bad_product, bad_range, bad_indexed, Need, free, count}
 use Rattle.nt_const.specs.Tells.{Refuses, RefusesOne}
 use Rattle.nt_const.specs.Walks.{Drafted, Drafts, Counted, Measured, Unfit, faulty, unfit, Misses, Summed, Severals, grown, PartGives, IndexedGives, Concats, RepeatGives, IsProduct}
 use Rattle.nt_const.proofs.Faults.{Fit, fit, fit_own, refuse_here, refuse_bad, refuse_there, refuse_wrong}

@@ -12,7 +12,9 @@ use Rattle.nt_ast.specs.declared.expr.Expr.{Expr}
 use Rattle.nt_ast.specs.declared.expr.Expr.TheOpen.{Expr-F}
 use Rattle.nt_ast.specs.declared.expr.Expr.TheViews.{out-Expr}
 use Rattle.nt_const.specs.Tables.{IsWidth, count_of, width_of}
-use Rattle.nt_const.specs.Rules.{Names, Node, Alone, literal, read, item, part, indexed, unary, binary, choose, concat, repeated, sign, Parts, none, more, Own, itself, place_of, operands, Need, free, Meets, needs, first, rest, Never, member, pattern, call, size, time, Wrong, not_constant, unknown_name, bad_width, bad_product, bad_range, bad_indexed, Fault, itself_wrong, in_operand, Among, here, unmet, there, Placed, placed, AllPlaced, none_at, more_at, Hides, never, hides, AnyHides, hides_here, hides_there, Faulty, whole, within}
+use Rattle.nt_ast.specs.Places.{Node, place_of, Within as In, Placed, literal_in, read_in, member_in, item_in, part_in, indexed_in, unary_in, binary_in, choose_in, concat_in, repeat_in, pattern_in, call_in, size_in, time_in, sign_in, AllPlaced, no_parts, more_parts}
+use Rattle.nt_ast.proofs.InOrder.{place_in, spans, all_span}
+use Rattle.nt_const.specs.Rules.{Names, Alone, literal, read, item, part, indexed, unary, binary, choose, concat, repeated, sign, Parts, none, more, Own, itself, operands, Need, free, Meets, needs, first, rest, Never, member, pattern, call, size, time, Wrong, not_constant, unknown_name, bad_width, bad_product, bad_range, bad_indexed, Fault, itself_wrong, in_operand, Among, here, unmet, there, Hides, never, hides, AnyHides, hides_here, hides_there, Faulty, whole, within}
 use Rattle.nt_const.specs.Tells.{refusal, Refuses, RefusesOne, RefusesWhole}
 use Rattle.nt_const.proofs.Answered.{parts_one, own_one, ap2}
 
@@ -122,24 +124,30 @@ no_faulty a (within x n f) = no_fault f a
 
 -- ---- where a fault's place lies
 
-pub record In (f i j : ℕ) (p : Place) : Type 0 where
-  pub file : p.file ≡ f
-  pub low : i ≤ p.offset
-  pub high : p.offset < j
-
-mutual
-  pub spans : {f i j : ℕ} {x : Node} → Placed f i j x → i < j
-  spans (placed x e lo hi s) = omega arith
-
-  pub all_spans : {f i j : ℕ} {xs : List Expr} → AllPlaced f i j xs → i ≤ j
-  all_spans (none_at le) = le
-  all_spans (more_at x xs p s) = let a = spans p in let b = all_spans s in omega arith
-
 wider : {f i j g h : ℕ} {p : Place} → In f i j p → g ≤ i → j ≤ h → In f g h p
-wider n a b = let c = n.low in let d = n.high in record { file = n.file; low = omega arith; high = omega arith }
+wider n a b = let c = n.from in let d = n.below in record { same = n.same; from = omega arith; below = omega arith }
 
-pub place_in : {f i j : ℕ} {x : Node} → Placed f i j x → In f i j (place_of x)
-place_in (placed x e lo hi s) = record { file = e; low = lo; high = hi }
+up_to : {f i j : ℕ} {p : Place} → In f i j p → p.offset ≤ j
+up_to w = let b = w.below in omega arith
+
+-- those of the parts that are operands are placed in order
+operands_placed : {f i j : ℕ} {x : Node} → Placed f i j x → AllPlaced f (place_of x).offset j (operands x)
+operands_placed (literal_in w) = no_parts (up_to w)
+operands_placed (read_in w p) = no_parts (up_to w)
+operands_placed (member_in w x) = no_parts (up_to w)
+operands_placed (item_in w x y) = more_parts x (more_parts y (no_parts (omega arith)))
+operands_placed (part_in w x y z) = more_parts x (more_parts y (more_parts z (no_parts (omega arith))))
+operands_placed (indexed_in w x y z) = more_parts x (more_parts y (more_parts z (no_parts (omega arith))))
+operands_placed (unary_in w x) = more_parts x (no_parts (omega arith))
+operands_placed (binary_in w x y) = more_parts x (more_parts y (no_parts (omega arith)))
+operands_placed (choose_in w x y z) = more_parts x (more_parts y (more_parts z (no_parts (omega arith))))
+operands_placed (concat_in w xs) = xs
+operands_placed (repeat_in w x xs) = more_parts x xs
+operands_placed (pattern_in w xs) = no_parts (up_to w)
+operands_placed (call_in w p xs) = no_parts (up_to w)
+operands_placed (size_in w x) = no_parts (up_to w)
+operands_placed (time_in w) = no_parts (up_to w)
+operands_placed (sign_in w x) = more_parts x (no_parts (omega arith))
 
 wrong_place : {k : Names} {x : Node} {r : Rule} {p : Place} → Wrong k x r p → p ≡ place_of x
 wrong_place (not_constant x n) = refl
@@ -152,16 +160,23 @@ wrong_place (bad_indexed at x y z up a b u g w) = refl
 mutual
   pub fault_in : {k : Names} {f i j : ℕ} {x : Node} {r : Rule} {p : Place} → Fault k x r p → Placed f i j x → In f i j p
   fault_in {f = f} {i = i} {j = j} (itself_wrong w) a = subst (λ p. In f i j p) (sym (wrong_place w)) (place_in a)
-  fault_in (in_operand x w) (placed _ e lo hi s) = wider (among_in w s) lo (omega arith)
+  fault_in (in_operand x w) a = let n = place_in a in wider (among_in w (operands_placed a)) n.from (omega arith)
 
   pub among_in : {k : Names} {ns : List Need} {f i j : ℕ} {xs : List Expr} {r : Rule} {p : Place} → Among k ns xs r p → AllPlaced f i j xs → In f i j p
-  among_in (here x xs w) (more_at _ _ a s) = let le = all_spans s in wider (fault_in w a) (omega arith) le
-  among_in (unmet x xs u m) (more_at _ _ a s) = let le = all_spans s in wider (place_in a) (omega arith) le
-  among_in (there x xs w) (more_at _ _ a s) = let lt = spans a in wider (among_in w s) (omega arith) (omega arith)
+  among_in (here x xs w) (more_parts a s) = let le = all_span s in wider (fault_in w a) (omega arith) le
+  among_in (unmet x xs u m) (more_parts a s) = let le = all_span s in wider (place_in a) (omega arith) le
+  among_in (there x xs w) (more_parts a s) = let lt = spans a in wider (among_in w s) (omega arith) (omega arith)
+
+-- at or after the place of the node
+fault_after : {k : Names} {f i j : ℕ} {x : Node} {r : Rule} {p : Place} → Fault k x r p → Placed f i j x → In f (place_of x).offset j p
+fault_after {f = f} {j = j} {x = x} (itself_wrong w) a =
+    let n = place_in a in
+    subst (λ (p : Place). In f (place_of x).offset j p) (sym (wrong_place w)) (record { same = n.same; from = omega arith; below = n.below })
+fault_after (in_operand x w) a = among_in w (operands_placed a)
 
 apart : {f i h j : ℕ} (r s : Rule) (p q : Place) → In f i h p → In f h j q → NoLater (refusal r p) (refusal s q)
 apart r s p q a b =
-    let e : p.file ≡ q.file = a.file ∙ sym b.file in let c = a.high in let d = b.low in
+    let e : p.file ≡ q.file = a.same ∙ sym b.same in let c = a.below in let d = b.from in
     let lt : p.offset < q.offset = omega arith in inr (e, inl lt)
 
 same : (r : Rule) (p : Place) → NoLater (refusal r p) (refusal r p)
@@ -172,18 +187,18 @@ same r p = let le : rule_number r ≤ rule_number r = omega arith in inr (refl, 
 module _ {k : Names} where
   least_here : (ns : List Need) (x : Expr) (xs : List Expr) (r : Refusal) → Refuses k (out-Expr x) r
       → (f i j : ℕ) → AllPlaced f i j (x ∷ xs) → (s : Rule) (q : Place) → Among k ns (x ∷ xs) s q → NoLater r (refusal s q)
-  least_here ns x xs r h f i j (more_at _ _ a p) s q (here _ _ w) = h.least _ _ _ a s q w
-  least_here ns x xs r h f i j (more_at _ _ a p) s q (unmet _ _ u m) = absurd (no_own h.is u)
-  least_here ns x xs r h f i j (more_at _ _ a p) s q (there _ _ w) = apart r.rule s r.place q (fault_in h.is a) (among_in w p)
+  least_here ns x xs r h f i j (more_parts a p) s q (here _ _ w) = h.least _ _ _ a s q w
+  least_here ns x xs r h f i j (more_parts a p) s q (unmet _ _ u m) = absurd (no_own h.is u)
+  least_here ns x xs r h f i j (more_parts a p) s q (there _ _ w) = apart r.rule s r.place q (fault_in h.is a) (among_in w p)
 
   pub refuse_here : (ns : List Need) (x : Expr) (xs : List Expr) (r : Refusal) → Refuses k (out-Expr x) r → RefusesOne k ns (x ∷ xs) r
   refuse_here ns x xs r h = record { is = here x xs h.is; least = least_here ns x xs r h }
 
   least_bad : (ns : List Need) (x : Expr) (xs : List Expr) (v : LeafValue) → Own k (out-Expr x) v → (Meets (first ns) v → ⊥)
       → (f i j : ℕ) → AllPlaced f i j (x ∷ xs) → (s : Rule) (q : Place) → Among k ns (x ∷ xs) s q → NoLater (refusal rule.T3 (place_of (out-Expr x))) (refusal s q)
-  least_bad ns x xs v u n f i j (more_at _ _ a p) s q (here _ _ w) = absurd (no_own w u)
-  least_bad ns x xs v u n f i j (more_at _ _ a p) s q (unmet _ _ t h) = same rule.T3 (place_of (out-Expr x))
-  least_bad ns x xs v u n f i j (more_at _ _ a p) s q (there _ _ w) = apart rule.T3 s (place_of (out-Expr x)) q (place_in a) (among_in w p)
+  least_bad ns x xs v u n f i j (more_parts a p) s q (here _ _ w) = absurd (no_own w u)
+  least_bad ns x xs v u n f i j (more_parts a p) s q (unmet _ _ t h) = same rule.T3 (place_of (out-Expr x))
+  least_bad ns x xs v u n f i j (more_parts a p) s q (there _ _ w) = apart rule.T3 s (place_of (out-Expr x)) q (place_in a) (among_in w p)
 
   pub refuse_bad : (ns : List Need) (x : Expr) (xs : List Expr) (v : LeafValue) → Own k (out-Expr x) v → (Meets (first ns) v → ⊥)
       → RefusesOne k ns (x ∷ xs) (refusal rule.T3 (place_of (out-Expr x)))
@@ -191,9 +206,9 @@ module _ {k : Names} where
 
   least_there : (ns : List Need) (x : Expr) (xs : List Expr) (r : Refusal) → Fit k (first ns) (out-Expr x) → RefusesOne k (rest ns) xs r
       → (f i j : ℕ) → AllPlaced f i j (x ∷ xs) → (s : Rule) (q : Place) → Among k ns (x ∷ xs) s q → NoLater r (refusal s q)
-  least_there ns x xs r a h f i j (more_at _ _ b p) s q (here _ _ w) = absurd (no_fit w a)
-  least_there ns x xs r a h f i j (more_at _ _ b p) s q (unmet _ _ u m) = absurd (no_unmet a u m)
-  least_there ns x xs r a h f i j (more_at _ _ b p) s q (there _ _ w) = h.least _ _ _ p s q w
+  least_there ns x xs r a h f i j (more_parts b p) s q (here _ _ w) = absurd (no_fit w a)
+  least_there ns x xs r a h f i j (more_parts b p) s q (unmet _ _ u m) = absurd (no_unmet a u m)
+  least_there ns x xs r a h f i j (more_parts b p) s q (there _ _ w) = h.least _ _ _ p s q w
 
   pub refuse_there : (ns : List Need) (x : Expr) (xs : List Expr) (r : Refusal) → Fit k (first ns) (out-Expr x) → RefusesOne k (rest ns) xs r
       → RefusesOne k ns (x ∷ xs) r
@@ -201,8 +216,8 @@ module _ {k : Names} where
 
   least_in : (x : Node) (r : Refusal) → RefusesOne k (needs x) (operands x) r
       → (f i j : ℕ) → Placed f i j x → (s : Rule) (q : Place) → Fault k x s q → NoLater r (refusal s q)
-  least_in x r h f i j (placed _ e lo hi p) s q (itself_wrong w) = absurd (no_among h.is (wrong_rests w))
-  least_in x r h f i j (placed _ e lo hi p) s q (in_operand _ w) = h.least _ _ _ p s q w
+  least_in x r h f i j a s q (itself_wrong w) = absurd (no_among h.is (wrong_rests w))
+  least_in x r h f i j a s q (in_operand _ w) = h.least _ _ _ (operands_placed a) s q w
 
   pub refuse_in : (x : Node) (r : Refusal) → RefusesOne k (needs x) (operands x) r → Refuses k x r
   refuse_in x r h = record { is = in_operand x h.is; least = least_in x r h }
@@ -244,9 +259,6 @@ wrong_rule (bad_indexed at x y z up a b u g w) = refl
 
 same_as : (r s : Rule) (p q : Place) → r ≡ s → p ≡ q → NoLater (refusal r p) (refusal s q)
 same_as r s p q e f = subst (λ s. NoLater (refusal r p) (refusal s q)) e (subst (λ q. NoLater (refusal r p) (refusal r q)) f (same r p))
-
-least_low : (n : ℕ) → n ≤ n
-least_low n = omega arith
 
 at_or_after : (a b : ℕ) (rest : Type 0) → a ≤ b → rest → LessOr a b rest
 at_or_after a b rest le h = elim (cases_eq a b) [ inl e ↦ inr (e, h) | inr ne ↦ let lt : a < b = omega arith in inl lt ]
@@ -307,9 +319,10 @@ module _ {k : Names} where
 
   least_whole : (x : Node) → Hides x → (f i j : ℕ) → Placed f i j x → (s : Rule) (q : Place) → Faulty k x s q → NoLater (refusal rule.T1 (place_of x)) (refusal s q)
   least_whole x h f i j a s q (whole _ g) = same rule.T1 (place_of x)
-  least_whole x h f i j (placed _ e lo hi p) s q (within _ m w) =
-      let n = fault_in w (placed x e (least_low (place_of x).offset) hi p) in
-      first_of (place_of x) s q (e ∙ sym n.file) n.low (fault_rule w)
+  least_whole x h f i j a s q (within _ m w) =
+      let n = fault_after w a in
+      let e = (place_in a).same in
+      first_of (place_of x) s q (e ∙ sym n.same) n.from (fault_rule w)
 
   pub refuse_whole : (x : Node) → Hides x → RefusesWhole k x (refusal rule.T1 (place_of x))
   refuse_whole x h = record { is = whole x h; least = least_whole x h }

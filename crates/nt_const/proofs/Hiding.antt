@@ -3,7 +3,8 @@ use Rattle.std.proofs.Common.{◌≡◌, ℕ, ◌+◌, ◌<◌, ◌≤◌, ◌||
 use Rattle.std.proofs.lemmas.List.{drop_more, drop_all}
 use Rattle.nt_ast.specs.declared.expr.Expr.{Expr}
 use Rattle.nt_ast.specs.declared.expr.Expr.TheViews.{out-Expr}
-use Rattle.nt_const.specs.Rules.{Node, operands, Never, Hides, never, hides, AnyHides, hides_here, hides_there}
+use Rattle.nt_ast.specs.Places.{Node}
+use Rattle.nt_const.specs.Rules.{operands, Never, Hides, never, hides, AnyHides, hides_here, hides_there}
 use Rattle.nt_const.specs.Forms.{HidesIs, AnyIs}
 
 pub hides_at : (b : Bool) (x n : Node) → x ≡ n → HidesIs b n → HidesIs b x

@@ -8,7 +8,8 @@ use Rattle.nt_diag.specs.declared.refusal.Fault.TheVariants as fault
 use Rattle.nt_const.specs.declared.draft.Draft.{Draft}
 use Rattle.nt_const.specs.Tables.{context, target}
 use Rattle.nt_const.specs.Drafts.{draft_leaf, draft_value}
-use Rattle.nt_const.specs.Rules.{Names, Node, Hides}
+use Rattle.nt_ast.specs.Places.{Node}
+use Rattle.nt_const.specs.Rules.{Names, Hides}
 use Rattle.nt_const.specs.Tells.{Means}
 use Rattle.nt_const.specs.Walks.{Drafted, Drafts}
 use Rattle.nt_const.specs.Answers.{Sizes, Evaluates}

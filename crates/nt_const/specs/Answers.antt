@@ -6,7 +6,8 @@ use Rattle.nt_value.specs.declared.place.Place.{Place}
 use Rattle.nt_diag.specs.declared.rule.Rule.{Rule}
 use Rattle.nt_diag.specs.declared.refusal.Fault.{Fault as Failure}
 use Rattle.nt_diag.specs.declared.refusal.Fault.TheVariants as fault
-use Rattle.nt_const.specs.Rules.{Names, Node, Alone, Faulty}
+use Rattle.nt_ast.specs.Places.{Node}
+use Rattle.nt_const.specs.Rules.{Names, Alone, Faulty}
 use Rattle.nt_const.specs.Tells.{Means, RefusesWhole}
 
 -- a leaf that a value may go to, or none

@@ -1,5 +1,5 @@
 -- Width, sign and value of a constant expression, and its faults (IEEE 1800-2017, clause 11).
-use Rattle.std.specs.Prelude.{◌≡◌, ℕ, suc, ◌+◌, ◌-◌, ◌*◌, ◌<◌, ◌≤◌, Bool, true, false, ◌||◌, List, [], ◌∷◌, Option, Some, None}
+use Rattle.std.specs.Prelude.{◌≡◌, ℕ, suc, ◌+◌, ◌-◌, ◌*◌, Bool, true, false, ◌||◌, List, [], ◌∷◌, Option, Some, None}
 use Rattle.nt_value.specs.Digits.{LeafValue}
 use Rattle.nt_value.specs.Operators.{unsigned_leaf, resize_of, unary_of, binary_of, merge_of}
 use Rattle.nt_value.specs.declared.leaf.Leaf.{Leaf}
@@ -14,11 +14,8 @@ use Rattle.nt_ast.specs.declared.expr.Key.{Key}
 use Rattle.nt_ast.specs.declared.expr.Expr.{Expr}
 use Rattle.nt_ast.specs.declared.expr.Expr.TheOpen.{Expr-F}
 use Rattle.nt_ast.specs.declared.expr.Expr.TheViews.{out-Expr}
+use Rattle.nt_ast.specs.Places.{Node, place_of}
 use Rattle.nt_const.specs.Tables.{with_sign, bit, unary_leaf, unary_in, binary_leaf, left_in, right_in, choice_leaf, literal_in, IsWidth, IsKnown, Counts, count_of, width_of, taken, indexed_of, joint, times, path_name}
-
--- a tree's first node, with trees below it
-abbrev pub Node : Type 0
-Node = Expr-F Expr
 
 -- the value of each name
 abbrev pub Names : Type 0
@@ -104,25 +101,6 @@ mutual
     no_values : {k : Names} → Owns k [] []
     more_values : {k : Names} {v : LeafValue} {vs : List LeafValue} (x : Expr) (xs : List Expr)
         → Own k (out-Expr x) v → Owns k xs vs → Owns k (x ∷ xs) (v ∷ vs)
-
--- where an expression begins
-abbrev pub place_of : Node → Place
-place_of (Expr-F.Literal at v) = at
-place_of (Expr-F.Read at path) = at
-place_of (Expr-F.Member at x name) = at
-place_of (Expr-F.Item at x y) = at
-place_of (Expr-F.Part at x y z) = at
-place_of (Expr-F.Indexed at x y z up) = at
-place_of (Expr-F.Unary at op x) = at
-place_of (Expr-F.Binary at op x y) = at
-place_of (Expr-F.Choose at p x y) = at
-place_of (Expr-F.Concat at xs) = at
-place_of (Expr-F.Repeat at x xs) = at
-place_of (Expr-F.Pattern at items) = at
-place_of (Expr-F.Call at path xs) = at
-place_of (Expr-F.Size at x) = at
-place_of (Expr-F.Time at) = at
-place_of (Expr-F.Sign at s x) = at
 
 -- the expressions of which it is made, in the order of the source. What no names could make constant has none here:
 -- it is faulty as a whole
@@ -220,16 +198,6 @@ mutual
         → Own k (out-Expr x) v → (Meets (first ns) v → ⊥) → Among k ns (x ∷ xs) rule.T3 (place_of (out-Expr x))
     there : {k : Names} {ns : List Need} {r : Rule} {p : Place} (x : Expr) (xs : List Expr)
         → Among k (rest ns) xs r p → Among k ns (x ∷ xs) r p
-
-mutual
-  -- all places lie in one file, from one offset to below another, and operands in the order of the source
-  pub data Placed : ℕ → ℕ → ℕ → Node → Type 0 where
-    placed : {f i j : ℕ} (x : Node) → (place_of x).file ≡ f → i ≤ (place_of x).offset → (place_of x).offset < j
-        → AllPlaced f (place_of x).offset j (operands x) → Placed f i j x
-
-  pub data AllPlaced : ℕ → ℕ → ℕ → List Expr → Type 0 where
-    none_at : {f i j : ℕ} → i ≤ j → AllPlaced f i j []
-    more_at : {f i h j : ℕ} (x : Expr) (xs : List Expr) → Placed f i h (out-Expr x) → AllPlaced f h j xs → AllPlaced f i j (x ∷ xs)
 
 mutual
   -- what no names could make constant stands in it

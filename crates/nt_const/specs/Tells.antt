@@ -9,7 +9,8 @@ use Rattle.nt_diag.specs.declared.refusal.Refusal.{Refusal}
 use Rattle.nt_diag.specs.Order.{NoLater}
 use Rattle.nt_ast.specs.declared.expr.Expr.{Expr}
 use Rattle.nt_const.specs.Tables.{context, target}
-use Rattle.nt_const.specs.Rules.{Names, Node, Alone, Within, Own, Fault, Among, Faulty, Placed, AllPlaced, Need}
+use Rattle.nt_ast.specs.Places.{Node, Placed, AllPlaced}
+use Rattle.nt_const.specs.Rules.{Names, Alone, Within, Own, Fault, Among, Faulty, Need}
 
 abbrev pub refusal : Rule → Place → Refusal
 refusal r p = record { rule = r; place = p }

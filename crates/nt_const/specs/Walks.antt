@@ -13,7 +13,8 @@ use Rattle.nt_const.specs.declared.draft.Draft.{Draft}
 use Rattle.nt_const.specs.declared.walk.Several.{Several}
 use Rattle.nt_const.specs.Tables.{IsKnown, Counts, IsWidth, count_of, width_of, taken, indexed_of, added, joint, times}
 use Rattle.nt_const.specs.Drafts.{OfClosed, draft_leaf, draft_value, own_value}
-use Rattle.nt_const.specs.Rules.{Names, Node, Alone, Parts, Within, Own, Owns, place_of, Need, known, count, Meets}
+use Rattle.nt_ast.specs.Places.{Node, place_of}
+use Rattle.nt_const.specs.Rules.{Names, Alone, Parts, Within, Own, Owns, Need, known, count, Meets}
 use Rattle.nt_const.specs.Tells.{refusal, Refuses, RefusesOne}
 
 -- a draft has the leaf of the expression, and in each context its value

@@ -3,7 +3,7 @@ ghost use Rattle.std.specs.Prelude.{◌≡◌, ◌≤◌, ◌*◌, ℕ, ◌||◌
 ghost use Rattle.nt_ast.specs.declared.expr.Expr.TheOpen.{Expr-F};
 ghost use Rattle.nt_ast.specs.declared.expr.Expr.TheViews.{out-Expr};
 ghost use Rattle.nt_const.specs.Drafts.{OfClosed, OfLiteral, draft_leaf, own_value};
-ghost use Rattle.nt_const.specs.Rules.{place_of};
+ghost use Rattle.nt_ast.specs.Places.{place_of};
 ghost use Rattle.nt_const.specs.Tables.{bit, full_name, indexed_of, named, path_name, with_sign};
 ghost use Rattle.nt_const.specs.Walks.{Concats, CountsTo, Drafts, IndexedGives, IsWidthed, MeasuresTo, PartGives, RepeatGives, Severals, grown};
 

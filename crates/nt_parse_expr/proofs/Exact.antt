@@ -6,7 +6,8 @@ use Rattle.nt_lexer.specs.declared.kinds.Mark.TheVariants as m
 use Rattle.nt_lexer.specs.declared.kinds.Word.TheVariants as w
 use Rattle.nt_lexer.specs.declared.kinds.TokenKind.{TokenKind}
 use Rattle.nt_read_expr.specs.Tables.{Tokens, stop_first}
-use Rattle.nt_read_expr.specs.Places.{Ascending, PlacedIn}
+use Rattle.nt_lexer.specs.Laws.{Ascending}
+use Rattle.nt_read_expr.specs.Places.{PlacedIn}
 use Rattle.nt_read_expr.specs.Reader.{below, whole, is_kind, is_at}
 use Rattle.nt_read_expr.proofs.Basics.{bind_some, some_is, if_some}
 use Rattle.nt_read_expr.proofs.Follows.{stop_follow, kind_is, false_of}
