@@ -1,2 +1,4 @@
+pub mod Counting
+pub mod Few
 pub mod Naming
 pub mod Trees

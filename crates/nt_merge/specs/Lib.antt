@@ -1,2 +1,4 @@
 pub mod Classes
+pub mod Drivers
 pub mod Forest
+pub mod Numbers
