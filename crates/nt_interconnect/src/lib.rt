@@ -6,3 +6,6 @@ mod types;
 
 pub use laws::one_type;
 pub use types::{NetType, SegmentKind, Unlike, type_of_class};
+
+#[cfg(test)]
+mod tests;
