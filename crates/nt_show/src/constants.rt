@@ -11,6 +11,7 @@ ghost use Rattle.nt_const.specs.Answers.{IsTarget};
 use nt_ast::{Expr, Path};
 use nt_const::{Constants, constant, width_and_sign};
 use nt_diag::Fault;
+use nt_texts::constant_of;
 use nt_value::{Binary, Bits, Digit, Leaf, Literal, Name, Place, Text, Unary, print_leaf, unary};
 use sqlite_items::{Boxed, Items};
 use std::alloc::{AllocError, Global};
@@ -522,14 +523,13 @@ fn read_word(alloc: Global, trees: &mut Vec<Read>, at: u32, word: &str) -> Resul
     }
 }
 
-fn tree(alloc: Global, text: &str) -> Result<Expr, Unread> {
+fn tree(alloc: Global, text: &str) -> Result<Boxed<Expr>, Unread> {
     let words: Vec<&str> = text.split(' ').collect(alloc)?;
     let mut trees = Vec::new(alloc);
     for (at, word) in words.iter().enumerate().rev() {
         read_word(alloc, &mut trees, some(u32::try_from(at).ok())?, word)?;
     }
-    let (_, expr) = pop(&mut trees)?;
-    Ok(expr)
+    read_boxed(alloc, &mut trees)
 }
 
 fn say_leaf(leaf: Leaf, out: &mut Text) -> Result<(), AllocError> {
@@ -593,6 +593,34 @@ fn target_of(text: &str) -> Option<Option<Leaf>>
     Some(Some(leaf_of(text)?))
 }
 
+fn tell_both(
+    alloc: Global,
+    known: &Constants,
+    to: Option<Leaf>,
+    expr: &Expr,
+    out: &mut Text,
+) -> Result<(), AllocError>
+    requires { IsTarget to }
+{
+    say_size(alloc, expr, known, out)?;
+    out.push_bytes(b", ")?;
+    say_value(alloc, expr, known, to, out)
+}
+
+fn tell_case(
+    alloc: Global,
+    known: &Constants,
+    to: Option<Leaf>,
+    case: &str,
+    out: &mut Text,
+) -> Result<(), Unread>
+    requires { IsTarget to }
+{
+    let expr = tree(alloc, case)?;
+    tell_both(alloc, known, to, expr.get(), out)?;
+    Ok(())
+}
+
 /// Adds the leaf that the expression has by itself, and its value at the leaf that it goes to, or twice the refusal.
 ///
 /// The line is that leaf, or `none`, and the expression.
@@ -603,16 +631,27 @@ pub(crate) fn tell_constant(
     out: &mut Text,
 ) -> Result<(), Unread> {
     let (to, case) = some(line.split_once(' '))?;
-    let expr = tree(alloc, case)?;
     match target_of(to) {
         None => Err(Unread::Words),
-        Some(to) => {
-            say_size(alloc, &expr, known, out)?;
-            out.push_bytes(b", ")?;
-            say_value(alloc, &expr, known, to, out)?;
-            Ok(())
-        }
+        Some(to) => tell_case(alloc, known, to, case, out),
     }
+}
+
+/// Adds the value of the constant expression that all of a text is, by itself, or the refusal.
+pub(crate) fn tell_value(
+    alloc: Global,
+    known: &Constants,
+    text: &[u8],
+    out: &mut Text,
+) -> Result<(), Unread> {
+    if 4194304 < text.len() {
+        return Err(Unread::Words);
+    }
+    match constant_of(alloc, text, known, None) {
+        Ok(value) => say_bits(value, out)?,
+        Err(fault) => say_fault(fault, out)?,
+    }
+    Ok(())
 }
 
 /// Makes a name known: the line is the name, a leaf and a value, which is a decimal number, or b with digits, of which the

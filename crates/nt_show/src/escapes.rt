@@ -1,4 +1,6 @@
 // Bytes that a line cannot hold as themselves.
+ghost use Rattle.std.specs.Prelude.{◌≤◌, length};
+
 use nt_value::Text;
 use std::alloc::{AllocError, Global};
 
@@ -11,7 +13,9 @@ fn hex(digit: u8) -> u8 {
 }
 
 // The byte that an escape stands for, and the text after it.
-fn one_escape(after: &[u8]) -> (u8, &[u8]) {
+fn one_escape(after: &[u8]) -> (u8, &[u8])
+    ensures { length result.1.now ≤ length after.now }
+{
     match after {
         [b'n', rest @ ..] => (10, rest),
         [b't', rest @ ..] => (9, rest),

@@ -1,7 +1,7 @@
 //! Reads cases, one a line, and prints each with what it gives: tokens, trees, values or refusals.
 //!
-//! The first word of a line says what its text is: `tokens`, `expression`, `statement`, `constant`, or `name`, which makes
-//! a name known to the constants after it. `expressions` and `statements` stand before a number and parts, which tell a
+//! The first word of a line says what its text is: `tokens`, `expression`, `statement`, `constant`, `value`, or `name`, which
+//! makes a name known to the constants and values after it. `expressions` and `statements` stand before a number and parts, which tell a
 //! longer text: whether it is one. In a text `\\n`, `\\t`, `\\\\` and `\\xHH` stand for bytes.
 #![tactic(auto)]
 
@@ -14,7 +14,7 @@ mod tokens;
 mod trees;
 mod words;
 
-use constants::{Unread, name_line, tell_constant};
+use constants::{Unread, name_line, tell_constant, tell_value};
 use escapes::{escaped, unescaped};
 use limits::{Sort, tell_limit};
 use nt_const::Constants;
@@ -36,6 +36,7 @@ fn tell(alloc: Global, known: &mut Constants, line: &str, out: &mut Text) -> Res
         "expressions" => tell_limit(alloc, Sort::Expression, text, out)?,
         "statements" => tell_limit(alloc, Sort::Statement, text, out)?,
         "constant" => tell_constant(alloc, known, text, out)?,
+        "value" => tell_value(alloc, known, unescaped(alloc, text)?.items(), out)?,
         "name" => name_line(alloc, known, text)?,
         _ => return Err(Unread::Words),
     }

@@ -7,6 +7,7 @@ use nt_lexer::{Head, Token, tokens};
 use nt_parse_expr::{Cursor, expression, statement};
 use nt_texts::{expression_of, statement_of};
 use nt_value::{Place, Text};
+use sqlite_items::Boxed;
 use std::alloc::{AllocError, Global};
 
 // The tokens of a text, or none where it is no text of tokens.
@@ -42,16 +43,18 @@ fn say_both(tree: &Text, copy: &Text, out: &mut Text) -> Result<(), AllocError> 
 fn tell_expr(alloc: Global, expr: &Expr, out: &mut Text) -> Result<(), AllocError> {
     let mut first = new_text(alloc);
     say_expr(expr, &mut first)?;
+    let copy = Boxed::new(alloc, copy_expr(alloc, expr)?)?;
     let mut second = new_text(alloc);
-    say_expr(&copy_expr(alloc, expr)?, &mut second)?;
+    say_expr(copy.get(), &mut second)?;
     say_both(&first, &second, out)
 }
 
 fn tell_stmt(alloc: Global, stmt: &Stmt, out: &mut Text) -> Result<(), AllocError> {
     let mut first = new_text(alloc);
     say_stmt(stmt, &mut first)?;
+    let copy = Boxed::new(alloc, copy_stmt(alloc, stmt)?)?;
     let mut second = new_text(alloc);
-    say_stmt(&copy_stmt(alloc, stmt)?, &mut second)?;
+    say_stmt(copy.get(), &mut second)?;
     say_both(&first, &second, out)
 }
 
@@ -76,7 +79,8 @@ fn tell_one(alloc: Global, cursor: &mut Cursor, out: &mut Text) -> Result<bool, 
     }
     match expression(alloc, cursor) {
         Ok(expr) => {
-            tell_expr(alloc, &expr, out)?;
+            let expr = Boxed::new(alloc, expr)?;
+            tell_expr(alloc, expr.get(), out)?;
             out.push(b' ')?;
             say_offset(cursor, out)?;
             cursor.at = cursor.at.wrapping_add(1);
@@ -117,7 +121,8 @@ pub(crate) fn tell_first(alloc: Global, text: &[u8], out: &mut Text) -> Result<(
     }
     match statement(alloc, &mut cursor) {
         Ok(stmt) => {
-            tell_stmt(alloc, &stmt, out)?;
+            let stmt = Boxed::new(alloc, stmt)?;
+            tell_stmt(alloc, stmt.get(), out)?;
             out.push(b' ')?;
             say_offset(&cursor, out)
         }
