@@ -5,6 +5,7 @@ use nt_lexer::{Mark, Token, TokenKind};
 use nt_parse_expr::{Cursor, expression};
 use nt_texts::expression_of;
 use nt_value::{Place, Text};
+use sqlite_items::Boxed;
 use std::alloc::{AllocError, Global};
 use std::test::Fail;
 
@@ -13,12 +14,12 @@ fn read_one(
     alloc: Global,
     cursor: &mut Cursor,
     place: &mut Option<Place>,
-) -> Result<Option<Expr>, AllocError> {
+) -> Result<Option<Boxed<Expr>>, AllocError> {
     if cursor.tokens.len() <= cursor.at {
         return Ok(None);
     }
     match expression(alloc, cursor) {
-        Ok(expr) => Ok(Some(expr)),
+        Ok(expr) => Ok(Some(Boxed::new(alloc, expr)?)),
         Err(Fault::Refused(refusal)) => {
             *place = Some(refusal.place);
             Ok(None)
@@ -35,12 +36,12 @@ fn push_times(times: u32, part: &[u8], out: &mut Text) -> Result<(), AllocError>
 }
 
 // The expression that is all of a text, or none.
-fn read_all(alloc: Global, text: &[u8]) -> Result<Option<Expr>, AllocError> {
+fn read_all(alloc: Global, text: &[u8]) -> Result<Option<Boxed<Expr>>, AllocError> {
     if 4000000 < text.len() {
         return Ok(None);
     }
     match expression_of(alloc, text) {
-        Ok(x) => Ok(Some(x)),
+        Ok(expr) => Ok(Some(Boxed::new(alloc, expr)?)),
         Err(Fault::Refused(_refusal)) => Ok(None),
         Err(Fault::OutOfMemory(refused)) => Err(refused),
     }
@@ -97,7 +98,7 @@ fn is_read_and_copied(alloc: Global, text: &[u8]) -> Result<bool, AllocError> {
     match read_all(alloc, text)? {
         None => Ok(false),
         Some(expr) => {
-            let _copy = copy_expr(alloc, &expr)?;
+            let _copy = Boxed::new(alloc, copy_expr(alloc, expr.get())?)?;
             Ok(true)
         }
     }
