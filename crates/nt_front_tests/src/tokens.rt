@@ -19,8 +19,9 @@ fn refusal_of(alloc: Global, file: u32, bytes: &[u8], head: &mut Head) -> Option
     ensures count { head.new.count ≤ 1000000 }
 {
     match tokens(alloc, file, bytes, head) {
-        Ok(_) | Err(Fault::OutOfMemory(_)) => None,
+        Ok(_) => None,
         Err(Fault::Refused(refusal)) => Some(refusal),
+        Err(Fault::OutOfMemory(_)) => None,
     }
 }
 
