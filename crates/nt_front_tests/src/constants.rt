@@ -1,6 +1,5 @@
 // The map of known constants.
-ghost use Rattle.std.specs.Prelude.{◌≡◌};
-ghost use Rattle.nt_value.specs.Digits.{IsLeaf};
+ghost use Rattle.std.specs.Prelude.{◌<◌, ◌^◌};
 
 use nt_const::Constants;
 use nt_value::{Bits, Leaf, Name};
@@ -12,7 +11,9 @@ const INTEGER: Leaf = Leaf {
     four: true,
 };
 
-fn is_number(found: Option<Bits>, wanted: u64) -> bool {
+fn is_number(found: Option<Bits>, wanted: u64) -> bool
+    requires { wanted < 2 ^ 32 }
+{
     match found {
         Some(bits) => bits.is_same(Bits::number(INTEGER, wanted)),
         None => false,
