@@ -111,7 +111,7 @@ fn copies_are_equal(rt: HostRuntime) -> Result<(), Fail> {
     value.put(1, mixed());
     assert!(rt; !same(&value, &before));
     let name = Name::from_slice(alloc, b"clk")?;
-    assert!(rt; name.copy(alloc)?.is_same(&name));
+    assert!(rt; name.copy(alloc)? == name);
     Ok(())
 }
 
