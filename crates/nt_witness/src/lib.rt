@@ -1,0 +1,6 @@
+//! The text of a witness.
+#![tactic(auto)]
+
+mod entries;
+
+pub use entries::print_entries;
