@@ -14,12 +14,13 @@ ghost use Rattle.nettype_sim.specs.Outcomes.{RanDesign, StoppedDesign, WriteFail
 ghost use Rattle.nettype_sim.specs.declared.run.Stop.TheVariants.{Memory};
 
 use crate::slot::run_slot;
-use crate::writing::{print_end, print_entries, print_slot};
+use crate::writing::{print_end, print_slot};
 use nt_design::Design;
 use nt_io::{Sink, write_all};
 use nt_machine::State;
 use nt_semantics::Entry;
 use nt_value::Text;
+use nt_witness::print_entries;
 use sqlite_items::Items;
 use std::alloc::{AllocError, Global};
 

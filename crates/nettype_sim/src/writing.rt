@@ -1,19 +1,18 @@
-// The texts of entries and of a slot.
+// The texts of a slot and of the end.
 ghost use Rattle.std.specs.Prelude.{◌≡◌, ◌++◌, ◌∷◌, [], ◌<◌, OnOk, IfOk, length, None, decimal, codes};
 ghost use Rattle.nt_design.specs.Plain.{IsPlain};
 ghost use Rattle.nt_design.specs.WellFormed.{IsDesign};
 ghost use Rattle.nt_machine.specs.Plain.{IsPlainState};
 ghost use Rattle.nt_semantics.specs.StateFits.{IsStateOf};
 ghost use Rattle.nt_semantics.specs.Execution.{observation_of};
-ghost use Rattle.nt_semantics.specs.Texts.{order_text, event_line, entry_lines, slot_text, end_text};
+ghost use Rattle.nt_semantics.specs.Texts.{slot_text, end_text};
 ghost use Rattle.nt_value.specs.Texts.{value_text};
 ghost use Rattle.nettype_sim.specs.Nets.{net_lines};
 
 use nt_design::{Design, Net};
 use nt_machine::State;
-use nt_semantics::{Entry, Event};
 use nt_value::{Text, Value, print};
-use std::alloc::{AllocError, Global};
+use std::alloc::AllocError;
 
 fn print_net(net: &Net, value: &Value, out: &mut Text) -> Result<(), AllocError>
     ensures { OnOk result (out.new ≡ out.old ++ (net.now.name ++ (codes " = " ++ (value_text value.now ++ (10 ∷ []))))) }

@@ -1,12 +1,12 @@
 -- The whole lines of a witness in which a run stopped.
-use Rattle.std.proofs.Common.{◌≡◌, ◌⊎◌, inl, inr, ℕ, zero, suc, ◌+◌, ◌<◌, ◌≤◌, true, List, [], ◌∷◌, ◌++◌, length, take, Option, Some, None, IfErr, Result, Ok, Err, option_and_then, refl, sym, ◌∙◌, ap, subst, arith, append_assoc, append-nil}
+use Rattle.std.proofs.Common.{◌≡◌, ◌⊎◌, inl, inr, ℕ, zero, suc, ◌+◌, ◌<◌, true, List, [], ◌∷◌, ◌++◌, length, take, Option, Some, None, IfErr, Result, Ok, Err, option_and_then, refl, sym, ◌∙◌, ap, subst, arith, append_assoc, append-nil}
 use Rattle.std.specs.List.{All}
 use Rattle.std.proofs.Math.Seq.{take-append-add}
 use Rattle.std.proofs.lemmas.List.{take-append-le}
 use Rattle.std.proofs.lemmas.List.Elements.{All-append, All-nil, All-cons, All-head, All-tail}
 use Rattle.std.proofs.lemmas.Grind.{flat_map-append}
 use Rattle.nt_io.specs.Sinks.{SinkMeaning, Gained}
-use Rattle.nt_io.proofs.Gains.{gained_then, gained_nothing}
+use Rattle.nt_io.proofs.Gains.{gained_then}
 use Rattle.nt_design.specs.declared.design.Design.{Design}
 use Rattle.nt_semantics.specs.Execution.{Execution, run, settle, expansion, copies, is_entry, seen, Observation}
 use Rattle.nt_semantics.specs.Rounds.{RoundState}
@@ -16,12 +16,12 @@ use Rattle.nt_semantics.specs.Texts.{entry_line, entry_lines}
 use Rattle.nt_semantics.specs.declared.event.Entry.{Entry}
 use Rattle.nt_semantics.specs.declared.event.Event.{Event}
 use Rattle.nt_slot.specs.Calls.{Setting, Call, entries_of, lines_of}
-use Rattle.nt_slot.specs.Slots.{Along, Further, SlotLeaves}
+use Rattle.nt_slot.specs.Slots.{Further, SlotLeaves}
 use Rattle.nt_slot.specs.declared.take.SlotStop.{SlotStop}
 use Rattle.nt_slot.specs.declared.take.SlotStop.TheVariants.{StepLimit, TurnLimit, Write, OutOfMemory}
 use Rattle.nt_runs.specs.Lines.{IsPart, WholeLines}
 use Rattle.nt_semantics.specs.Slots.{Reached}
-use Rattle.nt_runs.specs.SoFar.{SoFar, StopsInSlot, StopsAtEnd, RunLeaves}
+use Rattle.nt_runs.specs.SoFar.{SoFar, RunLeaves}
 use Rattle.nt_runs.specs.declared.runs.RunStop.{RunStop}
 use Rattle.nt_runs.specs.declared.runs.RunStop.TheVariants.{Slot, End}
 use Rattle.nt_runs.proofs.Lists.{none_some}

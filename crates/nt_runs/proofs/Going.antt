@@ -3,12 +3,12 @@ use Rattle.std.proofs.Common.{◌≡◌, ◌⊎◌, inl, inr, ℕ, Bool, true, f
 use Rattle.std.proofs.lemmas.Option.{same_Some}
 use Rattle.std.proofs.lemmas.Bool.{false≢true}
 use Rattle.nt_design.specs.declared.design.Design.{Design}
-use Rattle.nt_semantics.specs.Execution.{is_active, has_inactive, is_over, activate, move_updates, move, begin_next, next_moment, settle, run, ended, seen, if_some, Observation, observation_of, IsComplete}
+use Rattle.nt_semantics.specs.Execution.{is_active, has_inactive, is_over, activate, move_updates, move, begin_next, next_moment, settle, run, ended, seen, if_some, Observation, observation_of}
 use Rattle.nt_semantics.specs.State.{MachineState, start_state}
 use Rattle.nt_semantics.specs.Step.{step, is_some_put}
 use Rattle.nt_semantics.specs.declared.event.Event.{Event}
 use Rattle.nt_semantics.proofs.Filling.{move_fills}
-use Rattle.nt_semantics.specs.Slots.{settle_here, move_here, run_here}
+use Rattle.nt_semantics.specs.Slots.{settle_here, run_here}
 use Rattle.nt_semantics.proofs.MovingHere.{settle_active, settle_idle}
 use Rattle.nt_semantics.specs.Slots.{Reached}
 use Rattle.nt_runs.proofs.Lists.{none_some}

@@ -1,27 +1,25 @@
 -- A run so far, slot by slot.
-use Rattle.std.proofs.Common.{◌≡◌, ◌⊎◌, inl, inr, ℕ, ◌+◌, ◌-◌, ◌^◌, ◌<◌, ◌≤◌, Bool, true, false, not, ◌&&◌, if◌then◌else◌, List, [], ◌∷◌, ◌++◌, length, Option, Some, None, Result, Ok, Err, refl, sym, ◌∙◌, ap, subst, arith, append_assoc, append-nil}
-use Rattle.std.specs.List.{All, flat_map}
+use Rattle.std.proofs.Common.{◌≡◌, ℕ, ◌^◌, Bool, true, false, not, ◌&&◌, List, [], ◌∷◌, ◌++◌, Option, Some, None, Result, Ok, Err, refl, sym, ◌∙◌, ap, subst, arith, append-nil}
+use Rattle.std.specs.List.{All}
 use Rattle.std.proofs.lemmas.Bool.{false≢true}
 use Rattle.std.proofs.lemmas.List.Elements.{All-append, All-nil, All-cons}
 use Rattle.std.proofs.lemmas.Grind.{flat_map-append}
 use Rattle.nt_io.specs.Sinks.{SinkMeaning, Gained}
 use Rattle.nt_io.proofs.Gains.{gained_then, gained_nothing}
-use Rattle.nt_design.specs.declared.design.Design.{Design}
-use Rattle.nt_semantics.specs.Execution.{is_active, has_inactive, is_over, is_entry, expansion, copies, ended, seen, move, settle, observation_of, Observation, Execution, IsComplete}
+use Rattle.nt_semantics.specs.Execution.{is_active, has_inactive, is_over, is_entry, expansion, copies, seen, move, observation_of, Observation}
 use Rattle.nt_semantics.specs.Rounds.{RoundState}
 use Rattle.nt_semantics.specs.State.{MachineState, start_state}
 use Rattle.nt_semantics.specs.Step.{is_some_put}
 use Rattle.nt_semantics.specs.Texts.{entry_line, entry_lines}
 use Rattle.nt_semantics.specs.declared.event.Entry.{Entry}
 use Rattle.nt_semantics.specs.declared.event.Event.{Event}
-use Rattle.nt_semantics.specs.Slots.{Few, Went}
-use Rattle.nt_slot.specs.Calls.{Setting, Call, AreMade, AreQuiet, after_calls, entries_of, lines_of}
+use Rattle.nt_semantics.specs.Slots.{Few}
+use Rattle.nt_slot.specs.Calls.{Setting, Call, AreMade, after_calls, entries_of, lines_of}
 use Rattle.nt_slot.specs.Leaving.{SlotBegins, TimeLeaves}
-use Rattle.nt_slot.specs.Slots.{Along, SlotLeaves}
-use Rattle.nt_slot.specs.declared.take.SlotStop.{SlotStop}
+use Rattle.nt_slot.specs.Slots.{Along}
 use Rattle.nt_slot.proofs.Alongs.{fewer_than}
 use Rattle.nt_semantics.specs.Slots.{Reached}
-use Rattle.nt_runs.specs.SoFar.{SoFar, RunsWhole, StopsInSlot, StopsAtEnd, RunLeaves, OneLeaves, KeepsSizes, HaveSizes}
+use Rattle.nt_runs.specs.SoFar.{SoFar, RunsWhole, RunLeaves, OneLeaves, KeepsSizes, HaveSizes}
 use Rattle.nt_runs.specs.declared.runs.RunStop.{RunStop}
 use Rattle.nt_runs.specs.declared.runs.RunStop.TheVariants.{Slot, End}
 use Rattle.nt_runs.proofs.Going.{reached_start, reached_move, reached_went, reached_last, over_seen, unmoved_settled}
@@ -178,7 +176,7 @@ module _ (until : ℕ) (made : RoundState → List Entry → Option Event → Ro
 
   pub keeps_sizes : (stands : List Observation → Type 0) (h : RoundState) (b : SinkMeaning) (vars nets : ℕ) → HaveSizes until s.design vars nets → Begun stands h b → KeepsSizes s h vars nets
   keeps_sizes stands h b vars nets sizes begun = λ entries t went.
-    sizes (expansion (entries_of begun.calls) ++ expansion entries) begun.slots (seen t) t (reached_went until s.design (expansion (entries_of begun.calls)) (expansion entries) begun.slots h.state went.reached t begun.so_far.reached went.runs went.here)
+      sizes (expansion (entries_of begun.calls) ++ expansion entries) begun.slots (seen t) t (reached_went until s.design (expansion (entries_of begun.calls)) (expansion entries) begun.slots h.state went.reached t begun.so_far.reached went.runs went.here)
 
 pub few_at_start : (h : MachineState) → Few 1 h → Few (2 ^ 61) h
 few_at_start h few = fewer_than 1 (2 ^ 61) h (omega arith) few

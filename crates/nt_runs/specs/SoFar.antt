@@ -1,5 +1,5 @@
 -- A run so far, and what a run leaves.
-use Rattle.std.specs.Prelude.{◌≡◌, ◌⊎◌, ℕ, Bool, true, List, [], ◌∷◌, ◌++◌, Option, Some, None, Result, Ok, Err, All, length}
+use Rattle.std.specs.Prelude.{◌≡◌, ℕ, true, List, [], ◌∷◌, ◌++◌, Option, None, Result, Ok, Err, All, length}
 use Rattle.nt_io.specs.Sinks.{SinkMeaning, Gained}
 use Rattle.nt_design.specs.declared.design.Design.{Design}
 use Rattle.nt_semantics.specs.Execution.{is_over, is_entry, expansion, ended, seen, observation_of, Observation, Execution, IsComplete}
@@ -12,7 +12,6 @@ use Rattle.nt_slot.specs.Slots.{SlotLeaves, Along}
 use Rattle.nt_slot.specs.declared.take.SlotStop.TheVariants.{StepLimit, TurnLimit, Write, OutOfMemory}
 use Rattle.nt_slot.specs.declared.take.SlotStop.{SlotStop}
 use Rattle.nt_semantics.specs.Slots.{Reached, Went}
-use Rattle.nt_runs.specs.declared.end.SlotEndStop.{SlotEndStop}
 use Rattle.nt_runs.specs.declared.runs.RunStop.{RunStop}
 use Rattle.nt_runs.specs.declared.runs.RunStop.TheVariants.{Slot, End}
 

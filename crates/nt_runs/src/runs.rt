@@ -8,8 +8,8 @@ ghost use Rattle.nt_runs.specs.SoFar.{RunLeaves, OneLeaves, SlotShown, KeepsSize
 
 use crate::end::{SlotEnd, SlotEndStop};
 use crate::see::seen_of;
-use nt_slot::{Rounds, SlotStop, run_slot};
 use nt_io::Sink;
+use nt_slot::{Rounds, SlotStop, run_slot};
 use std::alloc::Global;
 
 /// Why a run was not made to its end.

@@ -1,6 +1,5 @@
 -- Calls of a slot, one more after others.
-use Rattle.std.proofs.Common.{◌≡◌, inl, inr, ◌⊎◌, ℕ, zero, suc, ◌+◌, ◌*◌, ◌-◌, IsSome, ◌^◌, ◌<◌, ◌≤◌, Bool, true, false, if◌then◌else◌, List, [], ◌∷◌, ◌++◌, length, take, Option, Some, None, IfSome, Result, Ok, Err, option_and_then, refl, sym, ◌∙◌, ap, subst, arith, append_assoc, append-nil, length-append}
-use Rattle.std.specs.List.{All, flat_map}
+use Rattle.std.proofs.Common.{◌≡◌, inl, inr, ◌⊎◌, ℕ, ◌+◌, ◌*◌, ◌-◌, IsSome, ◌^◌, ◌<◌, ◌≤◌, Bool, true, false, if◌then◌else◌, List, [], ◌∷◌, ◌++◌, length, take, Option, Some, None, Ok, Err, option_and_then, refl, sym, ◌∙◌, ap, subst, arith, append-nil, length-append}
 use Rattle.std.proofs.lemmas.List.Elements.{All-append, All-nil, All-cons}
 use Rattle.std.proofs.lemmas.Grind.{flat_map-append}
 use Rattle.std.proofs.lemmas.Option.{same_Some}
@@ -9,16 +8,15 @@ use Rattle.nt_io.specs.Causes.{Rose}
 use Rattle.nt_io.specs.Sinks.{SinkMeaning, Gained}
 use Rattle.nt_io.proofs.Gains.{gained_then, gained_nothing}
 use Rattle.nt_design.specs.declared.design.Design.{Design}
-use Rattle.nt_semantics.specs.Execution.{is_active, is_over, expansion, copies, is_entry}
+use Rattle.nt_semantics.specs.Execution.{is_active, expansion, copies, is_entry}
 use Rattle.nt_semantics.specs.Rounds.{RoundState}
 use Rattle.nt_semantics.specs.State.{MachineState}
-use Rattle.nt_semantics.specs.StateFits.{AtMost}
 use Rattle.nt_semantics.specs.Texts.{entry_line, entry_lines}
 use Rattle.nt_semantics.specs.declared.event.Entry.{Entry}
 use Rattle.nt_semantics.specs.declared.event.Event.{Event}
 use Rattle.nt_semantics.specs.Slots.{Few, Went, settle_here, run_here}
-use Rattle.nt_slot.specs.Calls.{Setting, Call, AreMade, AreQuiet, after_calls, entries_of, lines_of}
-use Rattle.nt_slot.specs.Leaving.{MakesProgress, WentOn}
+use Rattle.nt_slot.specs.Calls.{Setting, Call, AreMade, after_calls, entries_of, lines_of}
+use Rattle.nt_slot.specs.Leaving.{MakesProgress}
 use Rattle.nt_slot.specs.Slots.{limit, EndLeaves, Along, Further, SlotLeaves}
 use Rattle.nt_slot.specs.declared.rounds.RoundEnd.{RoundEnd}
 use Rattle.nt_slot.specs.declared.take.SlotStop.{SlotStop}
@@ -141,15 +139,18 @@ module _ (made : RoundState → List Entry → Option Event → RoundState → T
       (calls, call_of e k, further g h k a b c calls e (entry_lines e.entries) along is went gained, refl, long)
   stopped g h k a b c calls e n m (Write fault) along is went n_is (x, below, gained, rose) =
       (calls, call_of e k, x, below, further g h k a b c calls e (take x (entry_lines e.entries)) along is went gained, rose_since a b c (lines_of calls) along.gained rose)
-  stopped g h k a b c calls e n m (OutOfMemory refused) along is went n_is gained =
-      (calls, h, record {
-        are_made = along.are_made;
-        ends = along.ends;
-        quiet = along.quiet;
-        went = along.went;
-        few = along.few;
-        gained = subst (λ (l : List ℕ). Gained a c l) (append-nil (lines_of calls)) (gained_then along.gained gained);
-      })
+  stopped g h k a b c calls e n m (OutOfMemory refused) along is went n_is gained = (
+    calls,
+    h,
+    record {
+      are_made = along.are_made;
+      ends = along.ends;
+      quiet = along.quiet;
+      went = along.went;
+      few = along.few;
+      gained = subst (λ (l : List ℕ). Gained a c l) (append-nil (lines_of calls)) (gained_then along.gained gained);
+    },
+  )
 
   pub still_few : (g h : RoundState) (a b : SinkMeaning) (calls : List Call) → Few (2 ^ 61) g.state → Along made s g a calls h b → Few (2 ^ 62 - 2 ^ 20) h.state
   still_few g h a b calls few along =

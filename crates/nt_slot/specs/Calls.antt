@@ -1,5 +1,5 @@
 -- Calls of rounds, one after another.
-use Rattle.std.specs.Prelude.{◌≡◌, ◌⊎◌, ⊤, ℕ, ◌+◌, ◌≤◌, Bool, true, false, List, [], ◌∷◌, length, Option, Some, None, IfSome, All}
+use Rattle.std.specs.Prelude.{◌≡◌, ⊤, ℕ, Bool, List, [], ◌∷◌, Option, None, All}
 use Rattle.std.specs.List.{flat_map}
 use Rattle.nt_design.specs.declared.design.Design.{Design}
 use Rattle.nt_semantics.specs.Rounds.{RoundState}

@@ -1,9 +1,7 @@
 -- What each call of rounds leaves.
-use Rattle.std.specs.Prelude.{◌≡◌, ◌⊎◌, ℕ, ◌+◌, ◌<◌, ◌≤◌, Bool, true, false, List, [], length, Option, Some, None, IsSome}
-use Rattle.nt_design.specs.declared.design.Design.{Design}
+use Rattle.std.specs.Prelude.{◌≡◌, ◌⊎◌, ℕ, ◌<◌, ◌≤◌, true, false, List, [], length, Option, Some, None, IsSome}
 use Rattle.nt_semantics.specs.Execution.{is_active, is_over, move}
 use Rattle.nt_semantics.specs.Rounds.{RoundState}
-use Rattle.nt_semantics.specs.State.{MachineState}
 use Rattle.nt_semantics.specs.declared.event.Entry.{Entry}
 use Rattle.nt_semantics.specs.declared.event.Event.{Event}
 use Rattle.nt_semantics.specs.Slots.{Few, Went}

@@ -1,11 +1,9 @@
 -- What the run of a slot leaves.
-use Rattle.std.specs.Prelude.{◌≡◌, ◌⊎◌, ℕ, ◌+◌, ◌<◌, ◌≤◌, Bool, true, false, List, [], ◌∷◌, ◌++◌, length, take, Option, Some, None, Result, Ok, Err, All}
-use Rattle.std.specs.declared.alloc.AllocError.{AllocError}
+use Rattle.std.specs.Prelude.{◌≡◌, ℕ, ◌+◌, ◌<◌, ◌≤◌, true, List, [], length, take, Option, Some, None, Result, Ok, Err}
 use Rattle.nt_io.specs.Causes.{Rose}
 use Rattle.nt_io.specs.Sinks.{SinkMeaning, Gained}
-use Rattle.nt_semantics.specs.Execution.{is_over, expansion, is_entry}
+use Rattle.nt_semantics.specs.Execution.{is_over}
 use Rattle.nt_semantics.specs.Rounds.{RoundState}
-use Rattle.nt_semantics.specs.State.{MachineState}
 use Rattle.nt_semantics.specs.Texts.{entry_lines}
 use Rattle.nt_semantics.specs.declared.event.Entry.{Entry}
 use Rattle.nt_semantics.specs.declared.event.Event.{Event}
