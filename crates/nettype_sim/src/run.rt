@@ -20,7 +20,7 @@ use nt_io::{Sink, write_all};
 use nt_machine::State;
 use nt_semantics::Entry;
 use nt_value::Text;
-use nt_witness::print_entries;
+use nt_witness::text_of_entries;
 use sqlite_items::Items;
 use std::alloc::{AllocError, Global};
 
@@ -57,14 +57,6 @@ pub fn put<S: Sink>(sink: &mut S, bytes: &[u8]) -> Result<(), Stop>
         Ok(()) => Ok(()),
         Err(_) => Err(Stop::Write),
     }
-}
-
-fn text_of_entries(alloc: Global, entries: &[Entry]) -> Result<Text, AllocError>
-    ensures { IfOk result (λ text. text ≡ entry_lines entries.now) }
-{
-    let mut text = Text::new(Vec::new(alloc));
-    print_entries(entries, &mut text)?;
-    Ok(text)
 }
 
 fn text_of_slot(alloc: Global, design: &Design, state: &State) -> Result<Text, AllocError>

@@ -1,13 +1,11 @@
 // A round's end: its lines in the witness, and the limits.
-ghost use Rattle.std.specs.Prelude.{◌≡◌, ◌<◌, length, IfOk};
-ghost use Rattle.nt_semantics.specs.Texts.{entry_lines};
+ghost use Rattle.std.specs.Prelude.{◌≡◌, ◌<◌, length};
 ghost use Rattle.nt_slot.specs.Slots.{EndLeaves, limit};
 
 use crate::rounds::RoundEnd;
 use nt_io::{Sink, WriteFault, write_all};
-use nt_semantics::{Entry, Event};
-use nt_value::Text;
-use nt_witness::print_entries;
+use nt_semantics::Event;
+use nt_witness::text_of_entries;
 use std::alloc::{AllocError, Global};
 
 /// Why a slot was not run to its end.
@@ -37,14 +35,6 @@ impl From<AllocError> for SlotStop {
 // The entries that a slot may have at a round's end are fewer. It is this project's own limit.
 const LIMIT: u64 = 1_000_000;
 
-fn lines_of(alloc: Global, entries: &[Entry]) -> Result<Text, AllocError>
-    ensures { IfOk result (λ text. text ≡ entry_lines entries.now) }
-{
-    let mut text = Text::new(Vec::new(alloc));
-    print_entries(entries, &mut text)?;
-    Ok(text)
-}
-
 // Writes the lines of a round's entries, and counts them.
 pub(crate) fn take_end<W: Sink>(
     alloc: Global,
@@ -56,7 +46,7 @@ pub(crate) fn take_end<W: Sink>(
     ensures { EndLeaves end count.old count.new (W.meaning witness.old) (W.meaning witness.new) result }
 {
     let RoundEnd { entries, too_long } = end;
-    let lines = match lines_of(alloc, entries.as_slice()) {
+    let lines = match text_of_entries(alloc, entries.as_slice()) {
         Ok(lines) => lines,
         Err(refused) => return Err(SlotStop::OutOfMemory(refused)),
     };

@@ -1,12 +1,12 @@
 // The lines of entries.
-ghost use Rattle.std.specs.Prelude.{◌≡◌, ◌++◌, OnOk, OnErr};
+ghost use Rattle.std.specs.Prelude.{◌≡◌, ◌++◌, IfOk, OnOk, OnErr};
 ghost use Rattle.nt_semantics.specs.declared.event.Event.TheVariants.{Stmt, Assign as AssignEvent, Resolve};
 ghost use Rattle.nt_semantics.specs.Texts.{order_text, event_line, entry_lines};
 ghost use Rattle.nt_witness.specs.Fronts.{GainsFront};
 
 use nt_semantics::{Entry, Event};
 use nt_value::Text;
-use std::alloc::AllocError;
+use std::alloc::{AllocError, Global};
 
 fn print_order(order: &[u32], out: &mut Text) -> Result<(), AllocError>
     ensures text { OnOk result (out.new ≡ out.old ++ order_text order.now) }
@@ -79,4 +79,17 @@ pub fn print_entries(entries: &[Entry], out: &mut Text) -> Result<(), AllocError
         print_event(&entry.event, entry.count, out)?;
     }
     Ok(())
+}
+
+/// The lines of these entries.
+///
+/// # Errors
+///
+/// Where memory is refused.
+pub fn text_of_entries(alloc: Global, entries: &[Entry]) -> Result<Text, AllocError>
+    ensures { IfOk result (λ text. text ≡ entry_lines entries.now) }
+{
+    let mut text = Text::new(Vec::new(alloc));
+    print_entries(entries, &mut text)?;
+    Ok(text)
 }

@@ -3,4 +3,4 @@
 
 mod entries;
 
-pub use entries::print_entries;
+pub use entries::{print_entries, text_of_entries};
