@@ -4,6 +4,8 @@ use Rattle.nt_value.specs.Digits.{LeafValue}
 use Rattle.nt_value.specs.Operators.{unsigned_leaf, resize_of, unary_of, binary_of, merge_of}
 use Rattle.nt_value.specs.declared.leaf.Leaf.{Leaf}
 use Rattle.nt_ast.specs.declared.expr.Expr.{Expr}
+use Rattle.nt_const.specs.declared.seen.Seen.{Seen}
+use Rattle.nt_const.specs.declared.seen.Seen.TheVariants as seen
 use Rattle.nt_const.specs.Tables.{with_sign, bit, unary_leaf, unary_in, binary_leaf, left_in, right_in, choice_leaf, literal_in, count_of, width_of, taken, indexed_of, joint, times}
 use Rattle.nt_ast.specs.Places.{Node}
 use Rattle.nt_const.specs.Rules.{Names, Alone, literal, read, item, part, indexed, unary, binary, choose, concat, repeated, sign, Parts, none, more, Within, literal_within, read_within, item_within, part_within, indexed_within, unary_within, binary_within, choose_within, concat_within, repeated_within, sign_within, Own, itself, Owns, no_values, more_values}
@@ -14,8 +16,8 @@ ap2 f {a = a} {c = c} {b = b} {d = d} e g = ap (λ a. f a b) e ∙ ap (f c) g
 pub ap3 : {A B C D : Type 0} (f : A → B → C → D) {a d : A} {b e : B} {c g : C} → a ≡ d → b ≡ e → c ≡ g → f a b c ≡ f d e g
 ap3 f {a = a} {d = d} {b = b} {e = e} {c = c} {g = g} h i j = ap (λ a. f a b c) h ∙ ap2 (f d) i j
 
-pub some_one : {A : Type 0} {o : Option A} {a b : A} → o ≡ Some a → o ≡ Some b → a ≡ b
-some_one e f = cc
+pub value_one : {s : Seen} {a b : LeafValue} → s ≡ seen.Value a → s ≡ seen.Value b → a ≡ b
+value_one e f = cc
 
 pub joint_one : {o q : Option LeafValue} {a b : LeafValue} → o ≡ q → o ≡ Some a → q ≡ Some b → a ≡ b
 joint_one e f g = cc
@@ -27,7 +29,7 @@ pub record Same (n m : ℕ) (f g : Bool) : Type 0 where
 mutual
   pub alone_one : {k : Names} {x : Node} {l m : Leaf} → Alone k x l → Alone k x m → l ≡ m
   alone_one (literal at v) (literal _ _) = refl
-  alone_one (read at path b e) (read _ _ c f) = ap (λ (b : LeafValue). b.leaf) (some_one e f)
+  alone_one (read at path b e) (read _ _ c f) = ap (λ (b : LeafValue). b.leaf) (value_one e f)
   alone_one (item at x y a b) (item _ _ _ c d) = ap (λ (l : Leaf). bit l.four) (alone_one a c)
   alone_one (part at x y z a u g v h w) (part _ _ _ _ b s i t j z') =
       ap3 (λ (l : Leaf) (a b : LeafValue). unsigned_leaf (suc (count_of a) - count_of b) l.four) (alone_one a b) (own_one u s) (own_one v t)
@@ -49,7 +51,7 @@ mutual
 
   pub within_one : {k : Names} {x : Node} {c d : Leaf} {v w : LeafValue} → Within k x c v → Within k x d w → c ≡ d → v ≡ w
   within_one (literal_within at v) (literal_within _ _) h = ap (literal_in v) h
-  within_one (read_within at path b e) (read_within _ _ c f) h = ap2 resize_of (some_one e f) h
+  within_one (read_within at path b e) (read_within _ _ c f) h = ap2 resize_of (value_one e f) h
   within_one (item_within at x y v i) (item_within _ _ _ w j) h =
       ap2 resize_of (ap2 (λ v i. indexed_of true v i 1) (own_one v w) (own_one i j)) h
   within_one (part_within at x y z v a b) (part_within _ _ _ _ w c d) h =

@@ -17,7 +17,8 @@ use Rattle.nt_ast.specs.declared.expr.Expr.TheOpen.{Expr-F}
 use Rattle.nt_ast.specs.declared.expr.Expr.TheViews.{out-Expr}
 use Rattle.nt_const.specs.declared.draft.Draft.{Draft}
 use Rattle.nt_const.specs.declared.walk.Several.{Several}
-use Rattle.nt_const.specs.Tables.{with_sign, bit, binary_leaf, choice_leaf, unary_leaf, Counts, IsKnown, IsWidth, count_of, width_of, indexed_of, joint, joint_from, path_name}
+use Rattle.nt_const.specs.declared.seen.Seen.TheVariants as seen
+use Rattle.nt_const.specs.Tables.{with_sign, bit, binary_leaf, choice_leaf, unary_leaf, Counts, IsKnown, IsWidth, count_of, width_of, indexed_of, joint, joint_from}
 use Rattle.nt_const.specs.Drafts.{OfLiteral, OfClosed, OfUnary, OfBinary, OfChoose, draft_leaf, draft_value, own_value, IsMemory}
 use Rattle.nt_ast.specs.Places.{Node}
 use Rattle.nt_const.specs.Rules.{Names, Alone, literal, read, item, part, indexed, unary, binary, choose, concat, repeated, sign, Parts, none, more, Within, literal_within, read_within, item_within, part_within, indexed_within, unary_within, binary_within, choose_within, concat_within, repeated_within, sign_within, Own, itself, Owns, no_values, more_values, bad_width, bad_product, bad_range, bad_indexed, Need, free, count}
@@ -103,7 +104,7 @@ own_of k x a h = itself x h.leaf (h.value (draft_leaf a))
 pub drafted_literal : (k : Names) (at : Place) (v : Literal) → Drafted k (Expr-F.Literal at v) (OfLiteral v)
 drafted_literal k at v = made k _ (OfLiteral v) _ _ (leaf_literal v.bits.leaf v) (value_literal v.bits.leaf v) (literal at v) (λ c. literal_within at v)
 
-pub drafted_read : (k : Names) (at : Place) (path : Path) (b : LeafValue) → k (path_name path) ≡ Some b → Drafted k (Expr-F.Read at path) (OfClosed b.leaf b)
+pub drafted_read : (k : Names) (at : Place) (path : Path) (b : LeafValue) → k path ≡ seen.Value b → Drafted k (Expr-F.Read at path) (OfClosed b.leaf b)
 drafted_read k at path b e = made_closed k _ b.leaf b (read at path b e) (λ c. read_within at path b e)
 
 pub drafted_item : (k : Names) (at : Place) (x y : Expr) (a b : Draft) → Drafted k (out-Expr x) a → Drafted k (out-Expr y) b

@@ -11,10 +11,12 @@ use Rattle.std.proofs.lemmas.Bool.{cases_eq}
 use Rattle.nt_ast.specs.declared.expr.Expr.{Expr}
 use Rattle.nt_ast.specs.declared.expr.Expr.TheOpen.{Expr-F}
 use Rattle.nt_ast.specs.declared.expr.Expr.TheViews.{out-Expr}
+use Rattle.nt_const.specs.declared.seen.Seen.{Seen}
+use Rattle.nt_const.specs.declared.seen.Seen.TheVariants as seen
 use Rattle.nt_const.specs.Tables.{IsWidth, count_of, width_of}
 use Rattle.nt_ast.specs.Places.{Node, place_of, Within as In, Placed, literal_in, read_in, member_in, item_in, part_in, indexed_in, unary_in, binary_in, choose_in, concat_in, repeat_in, pattern_in, call_in, size_in, time_in, sign_in, AllPlaced, no_parts, more_parts}
 use Rattle.nt_ast.proofs.InOrder.{place_in, spans, all_span}
-use Rattle.nt_const.specs.Rules.{Names, Alone, literal, read, item, part, indexed, unary, binary, choose, concat, repeated, sign, Parts, none, more, Own, itself, operands, Need, free, Meets, needs, first, rest, Never, member, pattern, call, size, time, Wrong, not_constant, unknown_name, bad_width, bad_product, bad_range, bad_indexed, Fault, itself_wrong, in_operand, Among, here, unmet, there, Hides, never, hides, AnyHides, hides_here, hides_there, Faulty, whole, within}
+use Rattle.nt_const.specs.Rules.{Names, Alone, literal, read, item, part, indexed, unary, binary, choose, concat, repeated, sign, Parts, none, more, Own, itself, operands, Need, free, Meets, needs, first, rest, Never, other, member, pattern, call, size, time, Wrong, not_constant, unknown_name, two_imports, bad_width, bad_product, bad_range, bad_indexed, Fault, itself_wrong, in_operand, Among, here, unmet, there, Hides, never, hides, AnyHides, hides_here, hides_there, Faulty, whole, within}
 use Rattle.nt_const.specs.Tells.{refusal, Refuses, RefusesOne, RefusesWhole}
 use Rattle.nt_const.proofs.Answered.{parts_one, own_one, ap2}
 
@@ -44,22 +46,34 @@ operands_sound (concat at xs p w) = parts_sound p
 operands_sound (repeated at x xs u g p w) = sound (fit_own u g) (parts_sound p)
 operands_sound (sign at s x a) = sound (fit a) no_more
 
-never_none : {x : Node} → Never x → (k : Names) (ns : List Need) → Sound k ns (operands x)
-never_none (member at x name) k ns = no_more
-never_none (pattern at items) k ns = no_more
-never_none (call at path xs) k ns = no_more
-never_none (size at x) k ns = no_more
-never_none (time at) k ns = no_more
+seen_other : {s : Seen} {b : LeafValue} → s ≡ seen.Other → s ≡ seen.Value b → ⊥
+seen_other e f = cc
+
+seen_unknown : {s : Seen} {b : LeafValue} → s ≡ seen.Unknown → s ≡ seen.Value b → ⊥
+seen_unknown e f = cc
+
+seen_twice : {s : Seen} {b : LeafValue} → s ≡ seen.Ambiguous → s ≡ seen.Value b → ⊥
+seen_twice e f = cc
+
+never_none : {k : Names} {x : Node} → Never k x → (ns : List Need) → Sound k ns (operands x)
+never_none (other at path e) ns = no_more
+never_none (member at x name) ns = no_more
+never_none (pattern at items) ns = no_more
+never_none (call at path xs) ns = no_more
+never_none (size at x) ns = no_more
+never_none (time at) ns = no_more
 
 wrong_rests : {k : Names} {x : Node} {r : Rule} {p : Place} → Wrong k x r p → Sound k (needs x) (operands x)
-wrong_rests (not_constant x n) = never_none n _ _
+wrong_rests (not_constant x n) = never_none n _
 wrong_rests (unknown_name at path e) = no_more
+wrong_rests (two_imports at path e) = no_more
 wrong_rests (bad_width at xs p w) = parts_sound p
 wrong_rests (bad_product at x xs u g p w) = sound (fit_own u g) (parts_sound p)
 wrong_rests (bad_range at x y z a u g v h w) = sound (fit a) (sound (fit_own u g) (sound (fit_own v h) no_more))
 wrong_rests (bad_indexed at x y z up a b u g w) = sound (fit a) (sound (fit b) (sound (fit_own u g) no_more))
 
-never_alone : {k : Names} {x : Node} {l : Leaf} → Never x → Alone k x l → ⊥
+never_alone : {k : Names} {x : Node} {l : Leaf} → Never k x → Alone k x l → ⊥
+never_alone (other at path e) (read _ _ b f) = seen_other e f
 never_alone (member at x name) a = elim a [ ]
 never_alone (pattern at items) a = elim a [ ]
 never_alone (call at path xs) a = elim a [ ]
@@ -68,7 +82,8 @@ never_alone (time at) a = elim a [ ]
 
 no_wrong : {k : Names} {x : Node} {l : Leaf} {r : Rule} {p : Place} → Wrong k x r p → Alone k x l → ⊥
 no_wrong (not_constant x n) a = never_alone n a
-no_wrong (unknown_name at path e) (read _ _ b f) = cc
+no_wrong (unknown_name at path e) (read _ _ b f) = seen_unknown e f
+no_wrong (two_imports at path e) (read _ _ b f) = seen_twice e f
 no_wrong (bad_width at xs p n) (concat _ _ q w) = n (subst (λ n. IsWidth n) (parts_one q p).width w)
 no_wrong (bad_product at x xs u g p n) (repeated _ _ _ v h q w) =
     n (subst (λ n. IsWidth n) (ap2 (λ (v : LeafValue) (n : ℕ). count_of v * n) (own_one v u) (parts_one q p).width) w)
@@ -110,11 +125,11 @@ pub no_own : {k : Names} {x : Node} {v : LeafValue} {r : Rule} {p : Place} → F
 no_own f u = no_fault f (own_leaf u).1
 
 mutual
-  no_hides : {k : Names} {x : Node} {l : Leaf} → Hides x → Alone k x l → ⊥
+  no_hides : {k : Names} {x : Node} {l : Leaf} → Hides k x → Alone k x l → ⊥
   no_hides (never n) a = never_alone n a
   no_hides (hides x h) a = no_any h (operands_sound a)
 
-  no_any : {k : Names} {ns : List Need} {xs : List Expr} → AnyHides xs → Sound k ns xs → ⊥
+  no_any : {k : Names} {ns : List Need} {xs : List Expr} → AnyHides k xs → Sound k ns xs → ⊥
   no_any (hides_here x xs h) (sound a s) = no_hides h (fit_leaf a).1
   no_any (hides_there x xs h) (sound a s) = no_any h s
 
@@ -152,6 +167,7 @@ operands_placed (sign_in w x) = more_parts x (no_parts (omega arith))
 wrong_place : {k : Names} {x : Node} {r : Rule} {p : Place} → Wrong k x r p → p ≡ place_of x
 wrong_place (not_constant x n) = refl
 wrong_place (unknown_name at path e) = refl
+wrong_place (two_imports at path e) = refl
 wrong_place (bad_width at xs p w) = refl
 wrong_place (bad_product at x xs u g p w) = refl
 wrong_place (bad_range at x y z a u g v h w) = refl
@@ -224,34 +240,42 @@ module _ {k : Names} where
 
 -- ---- a fault of the node itself
 
-abbrev rule_of : Node → Rule
-rule_of (Expr-F.Literal at v) = rule.T1
-rule_of (Expr-F.Read at path) = rule.T4
-rule_of (Expr-F.Member at x name) = rule.T1
-rule_of (Expr-F.Item at x y) = rule.T1
-rule_of (Expr-F.Part at x y z) = rule.T2
-rule_of (Expr-F.Indexed at x y z up) = rule.T2
-rule_of (Expr-F.Unary at op x) = rule.T1
-rule_of (Expr-F.Binary at op x y) = rule.T1
-rule_of (Expr-F.Choose at p x y) = rule.T1
-rule_of (Expr-F.Concat at xs) = rule.T2
-rule_of (Expr-F.Repeat at x xs) = rule.T2
-rule_of (Expr-F.Pattern at items) = rule.T1
-rule_of (Expr-F.Call at path xs) = rule.T1
-rule_of (Expr-F.Size at x) = rule.T1
-rule_of (Expr-F.Time at) = rule.T1
-rule_of (Expr-F.Sign at s x) = rule.T1
+abbrev rule_seen : Seen → Rule
+rule_seen (seen.Value b) = rule.T1
+rule_seen seen.Other = rule.T1
+rule_seen seen.Unknown = rule.T4
+rule_seen seen.Ambiguous = rule.T9
 
-never_rule : {x : Node} → Never x → rule.T1 ≡ rule_of x
+abbrev rule_of : Names → Node → Rule
+rule_of k (Expr-F.Literal at v) = rule.T1
+rule_of k (Expr-F.Read at path) = rule_seen (k path)
+rule_of k (Expr-F.Member at x name) = rule.T1
+rule_of k (Expr-F.Item at x y) = rule.T1
+rule_of k (Expr-F.Part at x y z) = rule.T2
+rule_of k (Expr-F.Indexed at x y z up) = rule.T2
+rule_of k (Expr-F.Unary at op x) = rule.T1
+rule_of k (Expr-F.Binary at op x y) = rule.T1
+rule_of k (Expr-F.Choose at p x y) = rule.T1
+rule_of k (Expr-F.Concat at xs) = rule.T2
+rule_of k (Expr-F.Repeat at x xs) = rule.T2
+rule_of k (Expr-F.Pattern at items) = rule.T1
+rule_of k (Expr-F.Call at path xs) = rule.T1
+rule_of k (Expr-F.Size at x) = rule.T1
+rule_of k (Expr-F.Time at) = rule.T1
+rule_of k (Expr-F.Sign at s x) = rule.T1
+
+never_rule : {k : Names} {x : Node} → Never k x → rule.T1 ≡ rule_of k x
+never_rule (other at path e) = sym (ap rule_seen e)
 never_rule (member at x name) = refl
 never_rule (pattern at items) = refl
 never_rule (call at path xs) = refl
 never_rule (size at x) = refl
 never_rule (time at) = refl
 
-wrong_rule : {k : Names} {x : Node} {r : Rule} {p : Place} → Wrong k x r p → r ≡ rule_of x
+wrong_rule : {k : Names} {x : Node} {r : Rule} {p : Place} → Wrong k x r p → r ≡ rule_of k x
 wrong_rule (not_constant x n) = never_rule n
-wrong_rule (unknown_name at path e) = refl
+wrong_rule (unknown_name at path e) = sym (ap rule_seen e)
+wrong_rule (two_imports at path e) = sym (ap rule_seen e)
 wrong_rule (bad_width at xs p w) = refl
 wrong_rule (bad_product at x xs u g p w) = refl
 wrong_rule (bad_range at x y z a u g v h w) = refl
@@ -269,6 +293,7 @@ first_of p s q e le n = inr (e, at_or_after p.offset q.offset _ le n)
 wrong_number : {k : Names} {x : Node} {r : Rule} {p : Place} → Wrong k x r p → rule_number rule.T1 ≤ rule_number r
 wrong_number (not_constant x n) = omega arith
 wrong_number (unknown_name at path e) = omega arith
+wrong_number (two_imports at path e) = omega arith
 wrong_number (bad_width at xs p w) = omega arith
 wrong_number (bad_product at x xs u g p w) = omega arith
 wrong_number (bad_range at x y z a u g v h w) = omega arith
@@ -287,21 +312,22 @@ mutual
 other_rule : (r : Rule) → rule_number rule.T1 < rule_number r → r ≡ rule.T1 → ⊥
 other_rule r lt e = let h : rule_number r ≡ rule_number rule.T1 = ap rule_number e in omega arith
 
-hidden_wrong : {k : Names} {x : Node} {r : Rule} {p : Place} → Wrong k x r p → r ≡ rule.T1 → Hides x
+hidden_wrong : {k : Names} {x : Node} {r : Rule} {p : Place} → Wrong k x r p → r ≡ rule.T1 → Hides k x
 hidden_wrong (not_constant x n) e = never n
 hidden_wrong (unknown_name at path h) e = absurd (other_rule rule.T4 (omega arith) e)
+hidden_wrong (two_imports at path h) e = absurd (other_rule rule.T9 (omega arith) e)
 hidden_wrong (bad_width at xs p w) e = absurd (other_rule rule.T2 (omega arith) e)
 hidden_wrong (bad_product at x xs u g p w) e = absurd (other_rule rule.T2 (omega arith) e)
 hidden_wrong (bad_range at x y z a u g v h w) e = absurd (other_rule rule.T2 (omega arith) e)
 hidden_wrong (bad_indexed at x y z up a b u g w) e = absurd (other_rule rule.T2 (omega arith) e)
 
--- what no names could make constant is the only cause of T1
+-- what is no constant is the only cause of T1
 mutual
-  hidden : {k : Names} {x : Node} {r : Rule} {p : Place} → Fault k x r p → r ≡ rule.T1 → Hides x
+  hidden : {k : Names} {x : Node} {r : Rule} {p : Place} → Fault k x r p → r ≡ rule.T1 → Hides k x
   hidden (itself_wrong w) e = hidden_wrong w e
   hidden (in_operand x w) e = hides x (hidden_among w e)
 
-  hidden_among : {k : Names} {ns : List Need} {xs : List Expr} {r : Rule} {p : Place} → Among k ns xs r p → r ≡ rule.T1 → AnyHides xs
+  hidden_among : {k : Names} {ns : List Need} {xs : List Expr} {r : Rule} {p : Place} → Among k ns xs r p → r ≡ rule.T1 → AnyHides k xs
   hidden_among (here x xs w) e = hides_here x xs (hidden w e)
   hidden_among (unmet x xs u m) e = absurd (other_rule rule.T3 (omega arith) e)
   hidden_among (there x xs w) e = hides_there x xs (hidden_among w e)
@@ -317,19 +343,19 @@ module _ {k : Names} where
 
   -- ---- an expression that must be constant
 
-  least_whole : (x : Node) → Hides x → (f i j : ℕ) → Placed f i j x → (s : Rule) (q : Place) → Faulty k x s q → NoLater (refusal rule.T1 (place_of x)) (refusal s q)
+  least_whole : (x : Node) → Hides k x → (f i j : ℕ) → Placed f i j x → (s : Rule) (q : Place) → Faulty k x s q → NoLater (refusal rule.T1 (place_of x)) (refusal s q)
   least_whole x h f i j a s q (whole _ g) = same rule.T1 (place_of x)
   least_whole x h f i j a s q (within _ m w) =
       let n = fault_after w a in
       let e = (place_in a).same in
       first_of (place_of x) s q (e ∙ sym n.same) n.from (fault_rule w)
 
-  pub refuse_whole : (x : Node) → Hides x → RefusesWhole k x (refusal rule.T1 (place_of x))
+  pub refuse_whole : (x : Node) → Hides k x → RefusesWhole k x (refusal rule.T1 (place_of x))
   refuse_whole x h = record { is = whole x h; least = least_whole x h }
 
-  least_inside : (x : Node) (r : Refusal) → (Hides x → ⊥) → Refuses k x r → (f i j : ℕ) → Placed f i j x → (s : Rule) (q : Place) → Faulty k x s q → NoLater r (refusal s q)
+  least_inside : (x : Node) (r : Refusal) → (Hides k x → ⊥) → Refuses k x r → (f i j : ℕ) → Placed f i j x → (s : Rule) (q : Place) → Faulty k x s q → NoLater r (refusal s q)
   least_inside x r n h f i j a s q (whole _ g) = absurd (n g)
   least_inside x r n h f i j a s q (within _ m w) = h.least f i j a s q w
 
-  pub refuse_inside : (x : Node) (r : Refusal) → (Hides x → ⊥) → Refuses k x r → RefusesWhole k x r
+  pub refuse_inside : (x : Node) (r : Refusal) → (Hides k x → ⊥) → Refuses k x r → RefusesWhole k x r
   refuse_inside x r n h = record { is = within x (λ e. n (hidden h.is e)) h.is; least = least_inside x r n h }

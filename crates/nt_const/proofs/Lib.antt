@@ -2,7 +2,6 @@ pub mod Answered
 pub mod Closing
 pub mod Faults
 pub mod Numbers
-pub mod Names
 pub mod Steps
 pub mod Drafting
 pub mod Hiding

@@ -1,5 +1,5 @@
 -- Width, sign and value of a constant expression, and its faults (IEEE 1800-2017, clause 11).
-use Rattle.std.specs.Prelude.{◌≡◌, ℕ, suc, ◌+◌, ◌-◌, ◌*◌, Bool, true, false, ◌||◌, List, [], ◌∷◌, Option, Some, None}
+use Rattle.std.specs.Prelude.{◌≡◌, ℕ, suc, ◌+◌, ◌-◌, ◌*◌, Bool, true, false, ◌||◌, List, [], ◌∷◌, Option, Some}
 use Rattle.nt_value.specs.Digits.{LeafValue}
 use Rattle.nt_value.specs.Operators.{unsigned_leaf, resize_of, unary_of, binary_of, merge_of}
 use Rattle.nt_value.specs.declared.leaf.Leaf.{Leaf}
@@ -15,17 +15,19 @@ use Rattle.nt_ast.specs.declared.expr.Expr.{Expr}
 use Rattle.nt_ast.specs.declared.expr.Expr.TheOpen.{Expr-F}
 use Rattle.nt_ast.specs.declared.expr.Expr.TheViews.{out-Expr}
 use Rattle.nt_ast.specs.Places.{Node, place_of}
-use Rattle.nt_const.specs.Tables.{with_sign, bit, unary_leaf, unary_in, binary_leaf, left_in, right_in, choice_leaf, literal_in, IsWidth, IsKnown, Counts, count_of, width_of, taken, indexed_of, joint, times, path_name}
+use Rattle.nt_const.specs.declared.seen.Seen.{Seen}
+use Rattle.nt_const.specs.declared.seen.Seen.TheVariants as seen
+use Rattle.nt_const.specs.Tables.{with_sign, bit, unary_leaf, unary_in, binary_leaf, left_in, right_in, choice_leaf, literal_in, IsWidth, IsKnown, Counts, count_of, width_of, taken, indexed_of, joint, times}
 
--- the value of each name
+-- what is seen of each name: its value, something that is no constant, nothing, or what two imports give
 abbrev pub Names : Type 0
-Names = List ℕ → Option LeafValue
+Names = Path → Seen
 
 mutual
   -- the leaf of an expression by itself (IEEE 1800-2017, 11.6.1, 11.8.1)
   pub data Alone : Names → Node → Leaf → Type 0 where
     literal : {k : Names} (at : Place) (v : Literal) → Alone k (Expr-F.Literal at v) v.bits.leaf
-    read : {k : Names} (at : Place) (path : Path) (b : LeafValue) → k (path_name path) ≡ Some b → Alone k (Expr-F.Read at path) b.leaf
+    read : {k : Names} (at : Place) (path : Path) (b : LeafValue) → k path ≡ seen.Value b → Alone k (Expr-F.Read at path) b.leaf
     -- a bit select is unsigned (11.5.1, 11.8.1)
     item : {k : Names} {l m : Leaf} (at : Place) (x y : Expr)
         → Alone k (out-Expr x) l → Alone k (out-Expr y) m → Alone k (Expr-F.Item at x y) (bit l.four)
@@ -65,7 +67,7 @@ mutual
   pub data Within : Names → Node → Leaf → LeafValue → Type 0 where
     literal_within : {k : Names} {c : Leaf} (at : Place) (v : Literal) → Within k (Expr-F.Literal at v) c (literal_in v c)
     read_within : {k : Names} {c : Leaf} (at : Place) (path : Path) (b : LeafValue)
-        → k (path_name path) ≡ Some b → Within k (Expr-F.Read at path) c (resize_of b c)
+        → k path ≡ seen.Value b → Within k (Expr-F.Read at path) c (resize_of b c)
     item_within : {k : Names} {c : Leaf} {v i : LeafValue} (at : Place) (x y : Expr)
         → Own k (out-Expr x) v → Own k (out-Expr y) i → Within k (Expr-F.Item at x y) c (resize_of (indexed_of true v i 1) c)
     part_within : {k : Names} {c : Leaf} {v a b : LeafValue} (at : Place) (x y z : Expr)
@@ -102,8 +104,8 @@ mutual
     more_values : {k : Names} {v : LeafValue} {vs : List LeafValue} (x : Expr) (xs : List Expr)
         → Own k (out-Expr x) v → Owns k xs vs → Owns k (x ∷ xs) (v ∷ vs)
 
--- the expressions of which it is made, in the order of the source. What no names could make constant has none here:
--- it is faulty as a whole
+-- the expressions of which it is made, in the order of the source. What is no constant has none here: it is faulty as a
+-- whole
 abbrev pub operands : Node → List Expr
 operands (Expr-F.Literal at v) = []
 operands (Expr-F.Read at path) = []
@@ -122,13 +124,14 @@ operands (Expr-F.Size at x) = []
 operands (Expr-F.Time at) = []
 operands (Expr-F.Sign at s x) = x ∷ []
 
--- no names could make it constant: a member, a pattern, a call, `.size`, `$time` (IEEE 1800-2017, 11.2.1)
-pub data Never : Node → Type 0 where
-  member : (at : Place) (x : Expr) (name : List ℕ) → Never (Expr-F.Member at x name)
-  pattern : (at : Place) (items : List (Option Key × Expr)) → Never (Expr-F.Pattern at items)
-  call : (at : Place) (path : Path) (xs : List Expr) → Never (Expr-F.Call at path xs)
-  size : (at : Place) (x : Expr) → Never (Expr-F.Size at x)
-  time : (at : Place) → Never (Expr-F.Time at)
+-- it is no constant: a name of something else, a member, a pattern, a call, `.size`, `$time` (IEEE 1800-2017, 11.2.1)
+pub data Never (k : Names) : Node → Type 0 where
+  other : (at : Place) (path : Path) → k path ≡ seen.Other → Never k (Expr-F.Read at path)
+  member : (at : Place) (x : Expr) (name : List ℕ) → Never k (Expr-F.Member at x name)
+  pattern : (at : Place) (items : List (Option Key × Expr)) → Never k (Expr-F.Pattern at items)
+  call : (at : Place) (path : Path) (xs : List Expr) → Never k (Expr-F.Call at path xs)
+  size : (at : Place) (x : Expr) → Never k (Expr-F.Size at x)
+  time : (at : Place) → Never k (Expr-F.Time at)
 
 -- what the value of an operand must be: anything, known, or a bound or count
 pub data Need : Type 0 where
@@ -170,8 +173,9 @@ rest (n ∷ ns) = ns
 
 -- a fault of the node itself, which rests on all its operands
 pub data Wrong : Names → Node → Rule → Place → Type 0 where
-  not_constant : {k : Names} (x : Node) → Never x → Wrong k x rule.T1 (place_of x)
-  unknown_name : {k : Names} (at : Place) (path : Path) → k (path_name path) ≡ None → Wrong k (Expr-F.Read at path) rule.T4 at
+  not_constant : {k : Names} (x : Node) → Never k x → Wrong k x rule.T1 (place_of x)
+  unknown_name : {k : Names} (at : Place) (path : Path) → k path ≡ seen.Unknown → Wrong k (Expr-F.Read at path) rule.T4 at
+  two_imports : {k : Names} (at : Place) (path : Path) → k path ≡ seen.Ambiguous → Wrong k (Expr-F.Read at path) rule.T9 at
   bad_width : {k : Names} {n : ℕ} {four : Bool} (at : Place) (xs : List Expr)
       → Parts k xs n four → (IsWidth n → ⊥) → Wrong k (Expr-F.Concat at xs) rule.T2 at
   bad_product : {k : Names} {v : LeafValue} {n : ℕ} {four : Bool} (at : Place) (x : Expr) (xs : List Expr)
@@ -200,17 +204,17 @@ mutual
         → Among k (rest ns) xs r p → Among k ns (x ∷ xs) r p
 
 mutual
-  -- what no names could make constant stands in it
-  pub data Hides : Node → Type 0 where
-    never : {x : Node} → Never x → Hides x
-    hides : (x : Node) → AnyHides (operands x) → Hides x
+  -- what is no constant stands in it
+  pub data Hides (k : Names) : Node → Type 0 where
+    never : {x : Node} → Never k x → Hides k x
+    hides : (x : Node) → AnyHides k (operands x) → Hides k x
 
-  pub data AnyHides : List Expr → Type 0 where
-    hides_here : (x : Expr) (xs : List Expr) → Hides (out-Expr x) → AnyHides (x ∷ xs)
-    hides_there : (x : Expr) (xs : List Expr) → AnyHides xs → AnyHides (x ∷ xs)
+  pub data AnyHides (k : Names) : List Expr → Type 0 where
+    hides_here : (x : Expr) (xs : List Expr) → Hides k (out-Expr x) → AnyHides k (x ∷ xs)
+    hides_there : (x : Expr) (xs : List Expr) → AnyHides k xs → AnyHides k (x ∷ xs)
 
--- a fault of an expression that must be constant: what no names could make so is told of the whole, and not where it
+-- a fault of an expression that must be constant: what is no constant is told of the whole, and not where it
 -- stands inside
 pub data Faulty : Names → Node → Rule → Place → Type 0 where
-  whole : {k : Names} (x : Node) → Hides x → Faulty k x rule.T1 (place_of x)
+  whole : {k : Names} (x : Node) → Hides k x → Faulty k x rule.T1 (place_of x)
   within : {k : Names} {r : Rule} {p : Place} (x : Node) → (r ≡ rule.T1 → ⊥) → Fault k x r p → Faulty k x r p

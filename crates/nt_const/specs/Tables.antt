@@ -1,6 +1,7 @@
 -- Leaves of operands and results, and values that need no other expression.
-use Rattle.std.specs.Prelude.{◌≡◌, ℕ, zero, suc, ◌+◌, ◌-◌, ◌^◌, ◌<◌, ◌≤◌, nat_lt, nat_le, max, min, Bool, true, false, not, ◌&&◌, ◌||◌, if◌then◌else◌, List, [], ◌∷◌, ◌++◌, Option, Some, None, slice_get, codes, nat_eq}
-use Rattle.std.specs.Cmp.Lexicographic.{pointwise}
+use Rattle.std.specs.Prelude.{◌≡◌, ℕ, zero, suc, ◌+◌, ◌-◌, ◌^◌, ◌<◌, ◌≤◌, nat_lt, nat_le, max, min, Bool, true, false, not, ◌&&◌, ◌||◌, if◌then◌else◌, List, [], ◌∷◌, ◌++◌, Option, Some, None, slice_get, codes}
+use Rattle.std.specs.Map.{lookup}
+use Rattle.std.specs.Str.{bytes_eq}
 use Rattle.nt_value.specs.Digits.{LeafValue, is_known, is_one, all_known, number_of}
 use Rattle.nt_value.specs.Values.{default_leaf}
 use Rattle.nt_value.specs.Operators.{unsigned_leaf, resize_of, part_of, put_part_of, concat_of}
@@ -13,6 +14,8 @@ use Rattle.nt_value.specs.declared.operator.Unary.TheVariants as u
 use Rattle.nt_value.specs.declared.operator.Binary.{Binary}
 use Rattle.nt_value.specs.declared.operator.Binary.TheVariants as o
 use Rattle.nt_ast.specs.declared.path.Path.{Path}
+use Rattle.nt_const.specs.declared.seen.Seen.{Seen}
+use Rattle.nt_const.specs.declared.seen.Seen.TheVariants as seen
 
 -- the leaf in four states
 abbrev pub full : Leaf → Leaf
@@ -256,19 +259,13 @@ target (Some to) l = to
 abbrev pub Known : Type 0
 Known = List (List ℕ × LeafValue)
 
--- the second where the first is none
-abbrev pub or_else : Option LeafValue → Option LeafValue → Option LeafValue
-or_else (Some v) o = Some v
-or_else None o = o
-
--- the value of a name: the last one given
+-- the value of a name: that of the first entry with this name
 abbrev pub named : Known → List ℕ → Option LeafValue
-named [] name = None
-named (k ∷ ks) name = or_else (named ks name) (if pointwise nat_eq k.0 name then Some k.1 else None)
+named ks name = lookup (bytes_eq name) ks
 
 -- one name has this value, and all others what they had
 abbrev pub inserted : List ℕ → LeafValue → (List ℕ → Option LeafValue) → List ℕ → Option LeafValue
-inserted name value k other = if pointwise nat_eq name other then Some value else k other
+inserted name value k other = if bytes_eq name other then Some value else k other
 
 -- a name of a package stands under package::name
 abbrev pub full_name : Option (List ℕ) → List ℕ → List ℕ
@@ -277,3 +274,12 @@ full_name (Some scope) name = scope ++ codes "::" ++ name
 
 abbrev pub path_name : Path → List ℕ
 path_name path = full_name path.scope path.name
+
+-- what is seen of a name that has this value or none
+abbrev pub seen_as : Option LeafValue → Seen
+seen_as (Some v) = seen.Value v
+seen_as None = seen.Unknown
+
+-- what is seen of names where these constants are all that is known
+abbrev pub names_in : Known → Path → Seen
+names_in ks path = seen_as (named ks (path_name path))

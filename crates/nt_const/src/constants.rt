@@ -1,20 +1,20 @@
 // Names of constants with their values.
-ghost use Rattle.std.specs.Prelude.{◌≡◌, List, ℕ, Option, OnOk, OnErr, []};
-ghost use Rattle.std.specs.Cmp.Lexicographic.{pointwise};
-ghost use Rattle.std.specs.Prelude.{nat_eq};
-ghost use Rattle.nt_const.specs.Tables.{inserted, named};
+ghost use Rattle.std.specs.Prelude.{◌≡◌, ◌++◌, codes, List, ℕ, Option, IfOk, OnOk, OnErr, []};
+ghost use Rattle.nt_const.specs.Tables.{full_name, inserted, named, names_in, path_name};
 
+use crate::{Lookup, Seen};
+use indexmap::IndexMap;
+use nt_ast::Path;
 use nt_value::{Bits, Name};
-use sqlite_items::Items;
 use std::alloc::{AllocError, Global};
 use std::marker::Model;
 
 /// The values of known constants: a map from names to leaves with their digits. A constant `x` of a package `p` stands
-/// under the name `p::x` (IEEE 1800-2017, 26.3). Contracts see its entries in the order in which they were inserted, and
-/// ask by `named` for the value of a name.
+/// under the name `p::x` (IEEE 1800-2017, 26.3). Contracts see its entries in the order in which their names were first
+/// inserted, and ask by `named` for the value of a name. A look-up takes a time that does not grow with the number of names.
 #[derive(Drop)]
 pub struct Constants {
-    items: Items<(Name, Bits)>,
+    items: IndexMap<Name, Bits>,
 }
 
 impl Model for Constants {
@@ -22,7 +22,7 @@ impl Model for Constants {
 
     ghost Value = { Known };
 
-    ghost view = { λ c. c.items };
+    ghost view = { λ c. c.items.entries };
 }
 
 impl Constants {
@@ -31,7 +31,7 @@ impl Constants {
         ensures empty { result ≡ [] }
     {
         Constants {
-            items: Items::new(alloc),
+            items: IndexMap::new(alloc),
         }
     }
 
@@ -41,7 +41,7 @@ impl Constants {
         ensures ok { OnOk result ((other : List ℕ) → named self.new other ≡ inserted name bits (named self.old) other) }
         ensures err { OnErr result (self.new ≡ self.old) }
     {
-        self.items.push((name, bits))?;
+        self.items.insert(name, bits)?;
         Ok(())
     }
 
@@ -49,25 +49,39 @@ impl Constants {
     pub fn get(&self, name: &Name) -> Option<Bits>
         ensures value { result ≡ named self.now name.now }
     {
-        find(self.items.as_slice(), name.items())
+        self.items.get(name).copied()
     }
 }
 
-fn is_same_name(a: &[u8], b: &[u8]) -> bool
-    ensures { result ≡ pointwise nat_eq a.now b.now }
+fn package_name(alloc: Global, scope: &Name, name: &Name) -> Result<Name, AllocError>
+    ensures { IfOk result (λ n. n ≡ scope.now ++ codes "::" ++ name.now) }
 {
-    a == b
+    let mut bytes = Vec::from_slice(alloc, scope.items())?;
+    bytes.extend_from_slice(b"::")?;
+    bytes.extend_from_slice(name.items())?;
+    Ok(Name::new(bytes))
 }
 
-// The value of the last entry of this name.
-fn find(items: &[(Name, Bits)], name: &[u8]) -> Option<Bits>
-    ensures { result ≡ named items.now name.now }
+// The value of a path.
+fn value_of(alloc: Global, path: &Path, known: &Constants) -> Result<Option<Bits>, AllocError>
+    ensures { IfOk result (λ v. v ≡ named known.now (path_name path.now)) }
 {
-    let mut found = None;
-    for item in items {
-        if is_same_name(item.0.items(), name) {
-            found = Some(item.1);
+    match &path.scope {
+        None => Ok(known.get(&path.name)),
+        Some(scope) => {
+            let name = package_name(alloc, scope, &path.name)?;
+            Ok(known.get(&name))
         }
     }
-    found
+}
+
+impl Lookup for Constants {
+    ghost sees = { names_in };
+
+    fn look(&self, alloc: Global, path: &Path) -> Result<Seen, AllocError> {
+        match value_of(alloc, path, self)? {
+            Some(value) => Ok(Seen::Value(value)),
+            None => Ok(Seen::Unknown),
+        }
+    }
 }

@@ -1,9 +1,13 @@
-// Whether an expression can be constant at all.
-ghost use Rattle.std.specs.Prelude.{◌≡◌, ◌||◌};
+// Whether all in an expression is constant.
+ghost use Rattle.std.specs.Prelude.{◌≡◌, ◌||◌, IfOk};
+ghost use Rattle.nt_ast.specs.declared.expr.Expr.TheOpen.{Expr-F};
 ghost use Rattle.nt_ast.specs.declared.expr.Expr.TheViews.{out-Expr};
+ghost use Rattle.nt_value.specs.declared.place.Place.{Place as Spot};
 ghost use Rattle.nt_const.specs.Forms.{AnyIs, HidesIs};
 
-use nt_ast::Expr;
+use crate::{Lookup, Seen};
+use nt_ast::{Expr, Path};
+use std::alloc::{AllocError, Global};
 
 fn either(a: bool, b: bool) -> bool
     ensures { result ≡ (a || b) }
@@ -11,23 +15,35 @@ fn either(a: bool, b: bool) -> bool
     a || b
 }
 
-// Whether what no names could make constant stands in an expression.
+// Whether a name is that of something else than a constant.
+fn is_other<L: Lookup>(alloc: Global, path: &Path, known: &L) -> Result<bool, AllocError>
+    ensures { IfOk result (λ b. (at : Spot) → HidesIs (L.sees known.now) b (Expr-F.Read at path.now)) }
+{
+    match known.look(alloc, path)? {
+        Seen::Other => Ok(true),
+        Seen::Value(_) => Ok(false),
+        Seen::Unknown => Ok(false),
+        Seen::Ambiguous => Ok(false),
+    }
+}
+
+// Whether what is no constant stands in an expression.
 #[cycle(forms)]
-pub(crate) fn hides(expr: &Expr) -> bool
-    ensures { HidesIs result (out-Expr expr.now) }
+pub(crate) fn hides<L: Lookup>(alloc: Global, expr: &Expr, known: &L) -> Result<bool, AllocError>
+    ensures { IfOk result (λ b. HidesIs (L.sees known.now) b (out-Expr expr.now)) }
 {
     match expr {
-        Expr::Literal { .. } => false,
-        Expr::Read { .. } => false,
-        Expr::Member { .. } => true,
-        Expr::Pattern { .. } => true,
-        Expr::Call { .. } => true,
-        Expr::Size { .. } => true,
-        Expr::Time { .. } => true,
+        Expr::Literal { .. } => Ok(false),
+        Expr::Read { path, .. } => is_other(alloc, path, known),
+        Expr::Member { .. } => Ok(true),
+        Expr::Pattern { .. } => Ok(true),
+        Expr::Call { .. } => Ok(true),
+        Expr::Size { .. } => Ok(true),
+        Expr::Time { .. } => Ok(true),
         Expr::Item { of, index, .. } => {
-            let a = hides(of.get());
-            let b = hides(index.get());
-            either(a, b)
+            let a = hides(alloc, of.get(), known)?;
+            let b = hides(alloc, index.get(), known)?;
+            Ok(either(a, b))
         }
         Expr::Part {
             of,
@@ -35,10 +51,10 @@ pub(crate) fn hides(expr: &Expr) -> bool
             right,
             ..
         } => {
-            let a = hides(of.get());
-            let b = hides(left.get());
-            let c = hides(right.get());
-            either(a, either(b, c))
+            let a = hides(alloc, of.get(), known)?;
+            let b = hides(alloc, left.get(), known)?;
+            let c = hides(alloc, right.get(), known)?;
+            Ok(either(a, either(b, c)))
         }
         Expr::Indexed {
             of,
@@ -46,41 +62,42 @@ pub(crate) fn hides(expr: &Expr) -> bool
             width,
             ..
         } => {
-            let a = hides(of.get());
-            let b = hides(base.get());
-            let c = hides(width.get());
-            either(a, either(b, c))
+            let a = hides(alloc, of.get(), known)?;
+            let b = hides(alloc, base.get(), known)?;
+            let c = hides(alloc, width.get(), known)?;
+            Ok(either(a, either(b, c)))
         }
-        Expr::Unary { of, .. } => hides(of.get()),
+        Expr::Unary { of, .. } => hides(alloc, of.get(), known),
         Expr::Binary { left, right, .. } => {
-            let a = hides(left.get());
-            let b = hides(right.get());
-            either(a, b)
+            let a = hides(alloc, left.get(), known)?;
+            let b = hides(alloc, right.get(), known)?;
+            Ok(either(a, b))
         }
         Expr::Choose { test, yes, no, .. } => {
-            let a = hides(test.get());
-            let b = hides(yes.get());
-            let c = hides(no.get());
-            either(a, either(b, c))
+            let a = hides(alloc, test.get(), known)?;
+            let b = hides(alloc, yes.get(), known)?;
+            let c = hides(alloc, no.get(), known)?;
+            Ok(either(a, either(b, c)))
         }
-        Expr::Concat { parts, .. } => any_hides(parts.as_slice()),
+        Expr::Concat { parts, .. } => any_hides(alloc, parts.as_slice(), known),
         Expr::Repeat { count, parts, .. } => {
-            let a = hides(count.get());
-            let b = any_hides(parts.as_slice());
-            either(a, b)
+            let a = hides(alloc, count.get(), known)?;
+            let b = any_hides(alloc, parts.as_slice(), known)?;
+            Ok(either(a, b))
         }
-        Expr::Sign { of, .. } => hides(of.get()),
+        Expr::Sign { of, .. } => hides(alloc, of.get(), known),
     }
 }
 
 #[cycle(forms)]
-fn any_hides(parts: &[Expr]) -> bool
-    ensures { AnyIs result parts.now }
+fn any_hides<L: Lookup>(alloc: Global, parts: &[Expr], known: &L) -> Result<bool, AllocError>
+    ensures { IfOk result (λ b. AnyIs (L.sees known.now) b parts.now) }
 {
     for part in parts {
-        if hides(part) {
-            return true;
+        let found = hides(alloc, part, known)?;
+        if found {
+            return Ok(true);
         }
     }
-    false
+    Ok(false)
 }

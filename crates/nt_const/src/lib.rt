@@ -6,10 +6,14 @@ mod draft;
 mod evaluate;
 mod forms;
 mod laws;
+mod lookup;
+mod seen;
 mod size;
 mod value;
 mod walk;
 
 pub use constants::Constants;
-pub use evaluate::{constant, width_and_sign};
+pub use evaluate::{constant, constant_by, width_and_sign, width_and_sign_by};
 pub use laws::one_answer;
+pub use lookup::Lookup;
+pub use seen::Seen;

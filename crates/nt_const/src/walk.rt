@@ -1,20 +1,20 @@
 // The draft of an expression, in one walk.
-ghost use Rattle.std.specs.Prelude.{◌≡◌, ◌≤◌, ◌*◌, ℕ, ◌||◌, ◌++◌, codes, min, true, IfOk};
+ghost use Rattle.std.specs.Prelude.{◌≡◌, ◌≤◌, ◌*◌, ℕ, ◌||◌, min, true};
 ghost use Rattle.nt_ast.specs.declared.expr.Expr.TheOpen.{Expr-F};
 ghost use Rattle.nt_ast.specs.declared.expr.Expr.TheViews.{out-Expr};
 ghost use Rattle.nt_const.specs.Drafts.{OfClosed, OfLiteral, draft_leaf, own_value};
 ghost use Rattle.nt_ast.specs.Places.{place_of};
-ghost use Rattle.nt_const.specs.Tables.{bit, full_name, indexed_of, named, path_name, with_sign};
+ghost use Rattle.nt_const.specs.Tables.{bit, indexed_of, with_sign};
 ghost use Rattle.nt_const.specs.Walks.{Concats, CountsTo, Drafts, IndexedGives, IsWidthed, MeasuresTo, PartGives, RepeatGives, Severals, grown};
 
-use crate::Constants;
 use crate::draft::{Draft, binary_draft, choose_draft, own, size_of, unary_draft};
 use crate::size::{Size, one_bit, signed_as};
 use crate::value::{add, counts, indexed, repeat, taken, width_of};
+use crate::{Lookup, Seen};
 use nt_ast::{Expr, Path};
 use nt_diag::{Fault, Rule};
-use nt_value::{Bits, Literal, Name, Place};
-use std::alloc::{AllocError, Global};
+use nt_value::{Bits, Literal, Place};
+use std::alloc::Global;
 
 // Several operands: the sum of their widths, of which all over 64 are one, and their joint value.
 #[derive(Clone, Copy)]
@@ -45,28 +45,6 @@ pub(crate) fn place(expr: &Expr) -> Place
         Expr::Size { at, .. } => *at,
         Expr::Time { at } => *at,
         Expr::Sign { at, .. } => *at,
-    }
-}
-
-fn package_name(alloc: Global, scope: &Name, name: &Name) -> Result<Name, AllocError>
-    ensures { IfOk result (λ n. n ≡ scope.now ++ codes "::" ++ name.now) }
-{
-    let mut bytes = Vec::from_slice(alloc, scope.items())?;
-    bytes.extend_from_slice(b"::")?;
-    bytes.extend_from_slice(name.items())?;
-    Ok(Name::new(bytes))
-}
-
-// The value of a name.
-fn value_of(alloc: Global, path: &Path, known: &Constants) -> Result<Option<Bits>, AllocError>
-    ensures { IfOk result (λ v. v ≡ named known.now (path_name path.now)) }
-{
-    match &path.scope {
-        None => Ok(known.get(&path.name)),
-        Some(scope) => {
-            let name = package_name(alloc, scope, &path.name)?;
-            Ok(known.get(&name))
-        }
     }
 }
 
@@ -199,22 +177,24 @@ fn repeat_draft(at: Place, count: u64, all: Several) -> Result<Draft, Fault>
     }
 }
 
-fn read_draft(alloc: Global, at: Place, path: &Path, known: &Constants) -> Result<Draft, Fault>
-    ensures { Drafts (named known.now) (Expr-F.Read at path.now) result }
+fn read_draft<L: Lookup>(alloc: Global, at: Place, path: &Path, known: &L) -> Result<Draft, Fault>
+    ensures { Drafts (L.sees known.now) (Expr-F.Read at path.now) result }
 {
-    match value_of(alloc, path, known)? {
-        Some(value) => Ok(Draft::Closed {
+    match known.look(alloc, path)? {
+        Seen::Value(value) => Ok(Draft::Closed {
             size: Size::new(value.leaf()),
             value,
         }),
-        None => Err(Fault::refused(Rule::T4, at)),
+        Seen::Other => Err(Fault::refused(Rule::T1, at)),
+        Seen::Unknown => Err(Fault::refused(Rule::T4, at)),
+        Seen::Ambiguous => Err(Fault::refused(Rule::T9, at)),
     }
 }
 
 // A bound or count.
 #[cycle(walk)]
-fn counted(alloc: Global, expr: &Expr, known: &Constants) -> Result<u64, Fault>
-    ensures { CountsTo (named known.now) (out-Expr expr.now) result }
+fn counted<L: Lookup>(alloc: Global, expr: &Expr, known: &L) -> Result<u64, Fault>
+    ensures { CountsTo (L.sees known.now) (out-Expr expr.now) result }
 {
     let a = draft(alloc, expr, known)?;
     let value = own(&a);
@@ -227,8 +207,8 @@ fn counted(alloc: Global, expr: &Expr, known: &Constants) -> Result<u64, Fault>
 
 // A width, which may be below 1.
 #[cycle(walk)]
-fn measured(alloc: Global, expr: &Expr, known: &Constants) -> Result<u64, Fault>
-    ensures { MeasuresTo (named known.now) (out-Expr expr.now) result }
+fn measured<L: Lookup>(alloc: Global, expr: &Expr, known: &L) -> Result<u64, Fault>
+    ensures { MeasuresTo (L.sees known.now) (out-Expr expr.now) result }
 {
     let a = draft(alloc, expr, known)?;
     let value = own(&a);
@@ -241,8 +221,8 @@ fn measured(alloc: Global, expr: &Expr, known: &Constants) -> Result<u64, Fault>
 
 // The draft of an expression.
 #[cycle(walk)]
-pub(crate) fn draft(alloc: Global, expr: &Expr, known: &Constants) -> Result<Draft, Fault>
-    ensures { Drafts (named known.now) (out-Expr expr.now) result }
+pub(crate) fn draft<L: Lookup>(alloc: Global, expr: &Expr, known: &L) -> Result<Draft, Fault>
+    ensures { Drafts (L.sees known.now) (out-Expr expr.now) result }
 {
     match expr {
         Expr::Literal { value, .. } => Ok(literal_draft(*value)),
@@ -318,8 +298,8 @@ pub(crate) fn draft(alloc: Global, expr: &Expr, known: &Constants) -> Result<Dra
 
 // Several operands, each by itself.
 #[cycle(walk)]
-fn all_of(alloc: Global, parts: &[Expr], known: &Constants) -> Result<Several, Fault>
-    ensures { Severals (named known.now) parts.now result }
+fn all_of<L: Lookup>(alloc: Global, parts: &[Expr], known: &L) -> Result<Several, Fault>
+    ensures { Severals (L.sees known.now) parts.now result }
 {
     let mut all = Several {
         width: 0,

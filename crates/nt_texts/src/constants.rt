@@ -1,7 +1,7 @@
 // All of a text as one constant.
 ghost use Rattle.std.specs.Prelude.{◌≤◌, length};
 ghost use Rattle.nt_const.specs.Answers.{IsTarget};
-ghost use Rattle.nt_const.specs.Tables.{named};
+ghost use Rattle.nt_const.specs.Tables.{names_in};
 ghost use Rattle.nt_texts.specs.Constants.{ConstantOf};
 
 use crate::texts::expression_of;
@@ -25,7 +25,7 @@ pub fn constant_of(
 ) -> Result<Bits, Fault>
     requires within { length text.now ≤ 4194304 }
     requires target { IsTarget to }
-    ensures { ConstantOf text.now (named known.now) to result }
+    ensures { ConstantOf text.now (names_in known.now) to result }
 {
     let x = expression_of(alloc, text)?;
     constant(alloc, &x, known, to)

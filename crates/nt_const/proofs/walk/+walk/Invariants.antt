@@ -1,6 +1,5 @@
-use Rattle.nt_const.specs.Tables.{named}
 use Rattle.nt_const.proofs.Drafting.{Adding}
 use Rattle.nt_const.proofs.walk.+walk.Given as goal
 
 abbrev pub invariant-all_of-loop-part : goal.invariant-all_of-loop-part
-invariant-all_of-loop-part l = Adding (named l.known) l.parts l.part-index l.all
+invariant-all_of-loop-part g l = Adding (g.L.Lookup.sees l.known) l.parts l.part-index l.all
