@@ -6,7 +6,7 @@ use Rattle.nt_ast.specs.Places.{Node, place_of, Within, Placed, literal_in, read
 pub place_in : {file i j : ℕ} {x : Node} → Placed file i j x → Within file i j (place_of x)
 place_in (literal_in w) = w
 place_in (read_in w p) = w
-place_in (member_in w x) = w
+place_in (member_in w x p) = w
 place_in (item_in w x y) = w
 place_in (part_in w x y z) = w
 place_in (indexed_in w x y z) = w

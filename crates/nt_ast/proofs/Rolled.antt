@@ -37,9 +37,9 @@ module _ {file i j : ℕ} where
   unfolding roll-Expr roll
   read_placed {at = at} {path = path} p = rolled (Expr-F.Read at path) p
 
-  pub member_placed : {at : Place} {x : Expr} {name : List ℕ} → Placed file i j (Expr-F.Member at x name) → Placed file i j (out-Expr (e.Member at x name))
+  pub member_placed : {at p : Place} {x : Expr} {name : List ℕ} → Placed file i j (Expr-F.Member at x p name) → Placed file i j (out-Expr (e.Member at x p name))
   unfolding roll-Expr roll
-  member_placed {at = at} {x = x} {name = name} p = rolled (Expr-F.Member at x name) p
+  member_placed {at = at} {p = q} {x = x} {name = name} p = rolled (Expr-F.Member at x q name) p
 
   pub item_placed : {at : Place} {x : Expr} {y : Expr} → Placed file i j (Expr-F.Item at x y) → Placed file i j (out-Expr (e.Item at x y))
   unfolding roll-Expr roll
@@ -125,17 +125,17 @@ module _ {file i j : ℕ} where
   unfolding roll-Stmt roll
   repeat_stmt_placed {at = at} {x = x} {y = y} p = rolled_statement (Stmt-F.Repeat at x y) p
 
-  pub for_placed : {at : Place} {fresh : Bool} {name : List ℕ} {x : Expr} {y : Expr} {z : Stmt} {w : Stmt} → StatementPlaced file i j (Stmt-F.For at fresh name x y z w) → StatementPlaced file i j (out-Stmt (s.For at fresh name x y z w))
+  pub for_placed : {at p : Place} {fresh : Bool} {name : List ℕ} {x : Expr} {y : Expr} {z : Stmt} {w : Stmt} → StatementPlaced file i j (Stmt-F.For at fresh p name x y z w) → StatementPlaced file i j (out-Stmt (s.For at fresh p name x y z w))
   unfolding roll-Stmt roll
-  for_placed {at = at} {fresh = fresh} {name = name} {x = x} {y = y} {z = z} {w = w} p = rolled_statement (Stmt-F.For at fresh name x y z w) p
+  for_placed {at = at} {p = q} {fresh = fresh} {name = name} {x = x} {y = y} {z = z} {w = w} p = rolled_statement (Stmt-F.For at fresh q name x y z w) p
 
   pub forever_placed : {at : Place} {y : Stmt} → StatementPlaced file i j (Stmt-F.Forever at y) → StatementPlaced file i j (out-Stmt (s.Forever at y))
   unfolding roll-Stmt roll
   forever_placed {at = at} {y = y} p = rolled_statement (Stmt-F.Forever at y) p
 
-  pub foreach_placed : {at : Place} {array : List ℕ} {index : List ℕ} {y : Stmt} → StatementPlaced file i j (Stmt-F.Foreach at array index y) → StatementPlaced file i j (out-Stmt (s.Foreach at array index y))
+  pub foreach_placed : {at p q : Place} {array : List ℕ} {index : List ℕ} {y : Stmt} → StatementPlaced file i j (Stmt-F.Foreach at p array q index y) → StatementPlaced file i j (out-Stmt (s.Foreach at p array q index y))
   unfolding roll-Stmt roll
-  foreach_placed {at = at} {array = array} {index = index} {y = y} p = rolled_statement (Stmt-F.Foreach at array index y) p
+  foreach_placed {at = at} {p = m} {q = n} {array = array} {index = index} {y = y} p = rolled_statement (Stmt-F.Foreach at m array n index y) p
 
   pub delay_placed : {at : Place} {x : Expr} {y : Stmt} → StatementPlaced file i j (Stmt-F.Delay at x y) → StatementPlaced file i j (out-Stmt (s.Delay at x y))
   unfolding roll-Stmt roll

@@ -27,7 +27,7 @@ Node = Expr-F Expr
 abbrev pub place_of : Node → Place
 place_of (Expr-F.Literal at v) = at
 place_of (Expr-F.Read at path) = at
-place_of (Expr-F.Member at x name) = at
+place_of (Expr-F.Member at x p name) = at
 place_of (Expr-F.Item at x y) = at
 place_of (Expr-F.Part at x y z) = at
 place_of (Expr-F.Indexed at x y z up) = at
@@ -54,8 +54,8 @@ mutual
   pub data Placed (file : ℕ) : ℕ → ℕ → Node → Type 0 where
     literal_in : {i j : ℕ} {at : Place} {v : Literal} → Within file i j at → Placed file i j (Expr-F.Literal at v)
     read_in : {i j : ℕ} {at : Place} {path : Path} → Within file i j at → Within file at.offset j path.at → Placed file i j (Expr-F.Read at path)
-    member_in : {i j : ℕ} {at : Place} {x : Expr} {name : List ℕ}
-        → Within file i j at → Placed file at.offset j (out-Expr x) → Placed file i j (Expr-F.Member at x name)
+    member_in : {i h j : ℕ} {at p : Place} {x : Expr} {name : List ℕ}
+        → Within file i j at → Placed file at.offset h (out-Expr x) → Within file h j p → Placed file i j (Expr-F.Member at x p name)
     item_in : {i h j : ℕ} {at : Place} {x y : Expr}
         → Within file i j at → Placed file at.offset h (out-Expr x) → Placed file h j (out-Expr y) → Placed file i j (Expr-F.Item at x y)
     part_in : {i g h j : ℕ} {at : Place} {x y z : Expr}
@@ -166,13 +166,14 @@ mutual
         → Within file i j at → Placed file at.offset h (out-Expr x) → StatementPlaced file h j (out-Stmt y) → StatementPlaced file i j (Stmt-F.While at x y)
     repeat_stmt_in : {i h j : ℕ} {at : Place} {x : Expr} {y : Stmt}
         → Within file i j at → Placed file at.offset h (out-Expr x) → StatementPlaced file h j (out-Stmt y) → StatementPlaced file i j (Stmt-F.Repeat at x y)
-    for_in : {i f g h j : ℕ} {at : Place} {fresh : Bool} {name : List ℕ} {x y : Expr} {z v : Stmt}
-        → Within file i j at → Placed file at.offset f (out-Expr x) → Placed file f g (out-Expr y) → StatementPlaced file g h (out-Stmt z)
-        → StatementPlaced file h j (out-Stmt v) → StatementPlaced file i j (Stmt-F.For at fresh name x y z v)
+    for_in : {i d f g h j : ℕ} {at p : Place} {fresh : Bool} {name : List ℕ} {x y : Expr} {z v : Stmt}
+        → Within file i j at → Within file at.offset d p → Placed file d f (out-Expr x) → Placed file f g (out-Expr y) → StatementPlaced file g h (out-Stmt z)
+        → StatementPlaced file h j (out-Stmt v) → StatementPlaced file i j (Stmt-F.For at fresh p name x y z v)
     forever_in : {i j : ℕ} {at : Place} {y : Stmt}
         → Within file i j at → StatementPlaced file at.offset j (out-Stmt y) → StatementPlaced file i j (Stmt-F.Forever at y)
-    foreach_in : {i j : ℕ} {at : Place} {array index : List ℕ} {y : Stmt}
-        → Within file i j at → StatementPlaced file at.offset j (out-Stmt y) → StatementPlaced file i j (Stmt-F.Foreach at array index y)
+    foreach_in : {i g h j : ℕ} {at p q : Place} {array index : List ℕ} {y : Stmt}
+        → Within file i j at → Within file at.offset g p → Within file g h q → StatementPlaced file h j (out-Stmt y)
+        → StatementPlaced file i j (Stmt-F.Foreach at p array q index y)
     delay_in : {i h j : ℕ} {at : Place} {x : Expr} {y : Stmt}
         → Within file i j at → Placed file at.offset h (out-Expr x) → StatementPlaced file h j (out-Stmt y) → StatementPlaced file i j (Stmt-F.Delay at x y)
     event_in : {i h j : ℕ} {at : Place} {any : Bool} {xs : List (Edge × Expr)} {y : Stmt}

@@ -20,9 +20,14 @@ pub fn copy_expr(alloc: Global, expr: &Expr) -> Result<Expr, AllocError>
             value: *value,
         }),
         Expr::Read { at, path } => copy_read(alloc, *at, path),
-        Expr::Member { at, of, name } => {
+        Expr::Member {
+            at,
+            of,
+            name_at,
+            name,
+        } => {
             let of = copy_boxed(alloc, of)?;
-            member(alloc, *at, of, name)
+            member(alloc, *at, of, *name_at, name)
         }
         Expr::Item { at, of, index } => {
             let of = copy_boxed(alloc, of)?;
@@ -132,11 +137,22 @@ fn copy_read(alloc: Global, at: Place, path: &Path) -> Result<Expr, AllocError>
 }
 
 #[inline(never)]
-fn member(alloc: Global, at: Place, of: Boxed<Expr>, name: &Name) -> Result<Expr, AllocError>
-    ensures { IfOk result (λ e. e ≡ variant.Member at of name.now) }
+fn member(
+    alloc: Global,
+    at: Place,
+    of: Boxed<Expr>,
+    name_at: Place,
+    name: &Name,
+) -> Result<Expr, AllocError>
+    ensures { IfOk result (λ e. e ≡ variant.Member at of name_at name.now) }
 {
     let name = name.copy(alloc)?;
-    Ok(Expr::Member { at, of, name })
+    Ok(Expr::Member {
+        at,
+        of,
+        name_at,
+        name,
+    })
 }
 
 #[cycle(copy)]

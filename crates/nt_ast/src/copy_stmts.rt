@@ -106,6 +106,7 @@ pub fn copy_stmt(alloc: Global, stmt: &Stmt) -> Result<Stmt, AllocError>
         Stmt::For {
             at,
             fresh,
+            name_at,
             name,
             first,
             test,
@@ -120,6 +121,7 @@ pub fn copy_stmt(alloc: Global, stmt: &Stmt) -> Result<Stmt, AllocError>
             Ok(Stmt::For {
                 at: *at,
                 fresh: *fresh,
+                name_at: *name_at,
                 name,
                 first: first.into_inner(),
                 test,
@@ -133,7 +135,9 @@ pub fn copy_stmt(alloc: Global, stmt: &Stmt) -> Result<Stmt, AllocError>
         }
         Stmt::Foreach {
             at,
+            array_at,
             array,
+            index_at,
             index,
             body,
         } => {
@@ -142,7 +146,9 @@ pub fn copy_stmt(alloc: Global, stmt: &Stmt) -> Result<Stmt, AllocError>
             let body = copy_stmt_box(alloc, body)?;
             Ok(Stmt::Foreach {
                 at: *at,
+                array_at: *array_at,
                 array,
+                index_at: *index_at,
                 index,
                 body,
             })

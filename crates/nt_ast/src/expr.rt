@@ -25,10 +25,11 @@ pub enum Expr {
         at: Place,
         path: Path,
     },
-    /// `of.name`
+    /// `of.name`, whose name stands at `name_at`.
     Member {
         at: Place,
         of: Boxed<Expr>,
+        name_at: Place,
         name: Name,
     },
     /// `of[index]`

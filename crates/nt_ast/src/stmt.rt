@@ -53,10 +53,12 @@ pub enum Stmt {
         count: Expr,
         body: Boxed<Stmt>,
     },
-    /// `for (name = first; test; step) body`; where `fresh`, the name is declared here as `int`.
+    /// `for (name = first; test; step) body`; where `fresh`, the name is declared here as `int`. The name stands
+    /// at `name_at`.
     For {
         at: Place,
         fresh: bool,
+        name_at: Place,
         name: Name,
         first: Expr,
         test: Expr,
@@ -68,10 +70,12 @@ pub enum Stmt {
         at: Place,
         body: Boxed<Stmt>,
     },
-    /// `foreach (array[index]) body`
+    /// `foreach (array[index]) body`, each name with its place.
     Foreach {
         at: Place,
+        array_at: Place,
         array: Name,
+        index_at: Place,
         index: Name,
         body: Boxed<Stmt>,
     },

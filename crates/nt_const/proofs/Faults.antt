@@ -57,7 +57,7 @@ seen_twice e f = cc
 
 never_none : {k : Names} {x : Node} → Never k x → (ns : List Need) → Sound k ns (operands x)
 never_none (other at path e) ns = no_more
-never_none (member at x name) ns = no_more
+never_none (member at x p name) ns = no_more
 never_none (pattern at items) ns = no_more
 never_none (call at path xs) ns = no_more
 never_none (size at x) ns = no_more
@@ -74,7 +74,7 @@ wrong_rests (bad_indexed at x y z up a b u g w) = sound (fit a) (sound (fit b) (
 
 never_alone : {k : Names} {x : Node} {l : Leaf} → Never k x → Alone k x l → ⊥
 never_alone (other at path e) (read _ _ b f) = seen_other e f
-never_alone (member at x name) a = elim a [ ]
+never_alone (member at x p name) a = elim a [ ]
 never_alone (pattern at items) a = elim a [ ]
 never_alone (call at path xs) a = elim a [ ]
 never_alone (size at x) a = elim a [ ]
@@ -149,7 +149,7 @@ up_to w = let b = w.below in omega arith
 operands_placed : {f i j : ℕ} {x : Node} → Placed f i j x → AllPlaced f (place_of x).offset j (operands x)
 operands_placed (literal_in w) = no_parts (up_to w)
 operands_placed (read_in w p) = no_parts (up_to w)
-operands_placed (member_in w x) = no_parts (up_to w)
+operands_placed (member_in w x p) = no_parts (up_to w)
 operands_placed (item_in w x y) = more_parts x (more_parts y (no_parts (omega arith)))
 operands_placed (part_in w x y z) = more_parts x (more_parts y (more_parts z (no_parts (omega arith))))
 operands_placed (indexed_in w x y z) = more_parts x (more_parts y (more_parts z (no_parts (omega arith))))
@@ -249,7 +249,7 @@ rule_seen seen.Ambiguous = rule.T9
 abbrev rule_of : Names → Node → Rule
 rule_of k (Expr-F.Literal at v) = rule.T1
 rule_of k (Expr-F.Read at path) = rule_seen (k path)
-rule_of k (Expr-F.Member at x name) = rule.T1
+rule_of k (Expr-F.Member at x p name) = rule.T1
 rule_of k (Expr-F.Item at x y) = rule.T1
 rule_of k (Expr-F.Part at x y z) = rule.T2
 rule_of k (Expr-F.Indexed at x y z up) = rule.T2
@@ -266,7 +266,7 @@ rule_of k (Expr-F.Sign at s x) = rule.T1
 
 never_rule : {k : Names} {x : Node} → Never k x → rule.T1 ≡ rule_of k x
 never_rule (other at path e) = sym (ap rule_seen e)
-never_rule (member at x name) = refl
+never_rule (member at x p name) = refl
 never_rule (pattern at items) = refl
 never_rule (call at path xs) = refl
 never_rule (size at x) = refl

@@ -20,9 +20,9 @@ pub seen_read : (x : Expr) (at : Place) (path : Path) → x ≡ e.Read at path �
 unfolding roll-Expr roll
 seen_read x at path h = ap out-Expr h ∙ out-roll-Expr (Expr-F.Read at path)
 
-pub seen_member : (x : Expr) (at : Place) (y : Expr) (name : List ℕ) → x ≡ e.Member at y name → out-Expr x ≡ Expr-F.Member at y name
+pub seen_member : (x : Expr) (at : Place) (y : Expr) (p : Place) (name : List ℕ) → x ≡ e.Member at y p name → out-Expr x ≡ Expr-F.Member at y p name
 unfolding roll-Expr roll
-seen_member x at y name h = ap out-Expr h ∙ out-roll-Expr (Expr-F.Member at y name)
+seen_member x at y p name h = ap out-Expr h ∙ out-roll-Expr (Expr-F.Member at y p name)
 
 pub seen_item : (x : Expr) (at : Place) (y z : Expr) → x ≡ e.Item at y z → out-Expr x ≡ Expr-F.Item at y z
 unfolding roll-Expr roll

@@ -109,7 +109,7 @@ mutual
 abbrev pub operands : Node → List Expr
 operands (Expr-F.Literal at v) = []
 operands (Expr-F.Read at path) = []
-operands (Expr-F.Member at x name) = []
+operands (Expr-F.Member at x p name) = []
 operands (Expr-F.Item at x y) = x ∷ y ∷ []
 operands (Expr-F.Part at x y z) = x ∷ y ∷ z ∷ []
 operands (Expr-F.Indexed at x y z up) = x ∷ y ∷ z ∷ []
@@ -127,7 +127,7 @@ operands (Expr-F.Sign at s x) = x ∷ []
 -- it is no constant: a name of something else, a member, a pattern, a call, `.size`, `$time` (IEEE 1800-2017, 11.2.1)
 pub data Never (k : Names) : Node → Type 0 where
   other : (at : Place) (path : Path) → k path ≡ seen.Other → Never k (Expr-F.Read at path)
-  member : (at : Place) (x : Expr) (name : List ℕ) → Never k (Expr-F.Member at x name)
+  member : (at : Place) (x : Expr) (p : Place) (name : List ℕ) → Never k (Expr-F.Member at x p name)
   pattern : (at : Place) (items : List (Option Key × Expr)) → Never k (Expr-F.Pattern at items)
   call : (at : Place) (path : Path) (xs : List Expr) → Never k (Expr-F.Call at path xs)
   size : (at : Place) (x : Expr) → Never k (Expr-F.Size at x)
@@ -148,7 +148,7 @@ Meets count v = Counts v
 abbrev pub needs : Node → List Need
 needs (Expr-F.Literal at v) = []
 needs (Expr-F.Read at path) = []
-needs (Expr-F.Member at x name) = []
+needs (Expr-F.Member at x p name) = []
 needs (Expr-F.Item at x y) = []
 needs (Expr-F.Part at x y z) = free ∷ count ∷ count ∷ []
 needs (Expr-F.Indexed at x y z up) = free ∷ free ∷ known ∷ []

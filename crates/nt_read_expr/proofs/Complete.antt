@@ -119,7 +119,7 @@ module _ (limit : ℕ) where
     selects_bracket free f at x y ts us g j = rw (g, j) refl
 
     selects_member : (free : Bool) (f : ℕ) (at : Place) (x : Expr) (name : List ℕ) (ts : Tokens) → is_at m.LeftBracket ts ≡ false → dotted (is_member free) ts ≡ Some name
-        → r.selects limit rs free (suc f) at x ts ≡ r.selects limit rs free f at (e.Member at x name) (drop 2 ts)
+        → r.selects limit rs free (suc f) at x ts ≡ r.selects limit rs free f at (e.Member at x (start (drop 1 ts)) name) (drop 2 ts)
     unfolding r.selects
     selects_member free f at x name ts g j = rw (g, j) refl
 

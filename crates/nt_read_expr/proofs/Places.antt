@@ -125,7 +125,7 @@ module _ (file : ℕ) where
       -- one select of what is placed before it, and before the end
       select_placed : {d : ℕ} {free : Bool} {ts : Tokens} {at : Place} {x y : Expr} → {i h j : ℕ} → Select limit d free at x ts y → Within file i j at
           → Placed file at.offset h (out-Expr x) → Placed file at.offset j (out-Expr x) → Ascending file h j ts → Placed file i j (out-Expr y)
-      select_placed (member o t eo et f) w x all a = member_placed (member_in w all)
+      select_placed (member o t eo et f) w x all a = member_placed (member_in w x (first_in (rest_of a)))
       select_placed (item {ts = ts} o c eo y ec) w x all a = item_placed (item_in w x (expression_placed y (front_of ts (c ∷ []) (rest_of a))))
       select_placed (part {ts = ts} {us = us} o q c eo y eq z ec) w x all a =
           let h = halves ts (q ∷ us) (front_of (ts ++ q ∷ us) (c ∷ []) (rest_of a)) in

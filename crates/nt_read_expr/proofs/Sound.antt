@@ -351,9 +351,10 @@ module _ (limit : ℕ) where
                     }
                 | inr g ↦
                     let q = dotted_of (is_member free) s g.0 g.1 in
-                    let z : Expr = expr.Member (start ts) x g.0 in
+                    let z : Expr = expr.Member (start ts) x (start (drop 1 s)) g.0 in
+                    let at_two : start (drop 1 s) ≡ q.0.two.at = ap (λ v. start (drop 1 v)) q.0.is in
                     let w : Took (λ p. Select limit D free (start ts) x p z) s (drop 2 s) =
-                    record { front = q.0.one ∷ q.0.two ∷ []; split = q.0.is; derives = member q.0.one q.0.two q.0.is_mark q.0.is_name q.1 } in
+                    record { front = q.0.one ∷ q.0.two ∷ []; split = q.0.is; derives = subst (λ p. Select limit D free (start ts) x (q.0.one ∷ q.0.two ∷ []) (expr.Member (start ts) x p g.0)) (sym at_two) (member q.0.one q.0.two q.0.is_mark q.0.is_name q.1) } in
                     let starts : start (ts ++ w.front) ≡ start ts = start_append (left_begins limit l) w.front in
                     longer_by free ts s (drop 2 s) us x y z w
                     (selects_sound free f (suc n) (ts ++ w.front) z (drop 2 s) us y (selected l w.derives) (omega arith) (ap (λ at. r.selects limit rs free f at z (drop 2 s)) starts ∙ g.2))

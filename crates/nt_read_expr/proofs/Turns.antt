@@ -18,8 +18,8 @@ module _ (limit : ℕ) (rs : Readers) where
   select_then free f place x ts = by_bracket (is_at m.LeftBracket ts) (r.index limit rs place x (drop 1 ts)) (dotted (is_member free) ts)
     where
       by_bracket : (b : Bool) (i : Option (Expr × Tokens)) (n : Option (List ℕ))
-          → (if b then (i >>= λ p. r.selects limit rs free f place p.0 p.1) else either n (Some (x, ts)) (λ name. r.selects limit rs free f place (expr.Member place x name) (drop 2 ts)))
-          ≡ (let s : Option (Bool × Expr × Tokens) = if b then (i >>= λ p. Some (true, p.0, p.1)) else either n (Some (false, x, ts)) (λ name. Some (true, expr.Member place x name, drop 2 ts)) in
+          → (if b then (i >>= λ p. r.selects limit rs free f place p.0 p.1) else either n (Some (x, ts)) (λ name. r.selects limit rs free f place (expr.Member place x (start (drop 1 ts)) name) (drop 2 ts)))
+          ≡ (let s : Option (Bool × Expr × Tokens) = if b then (i >>= λ p. Some (true, p.0, p.1)) else either n (Some (false, x, ts)) (λ name. Some (true, expr.Member place x (start (drop 1 ts)) name, drop 2 ts)) in
           s >>= λ p. if p.0 then r.selects limit rs free f place p.1 p.2 else Some (p.1, p.2))
       by_bracket true None n = refl
       by_bracket true (Some p) n = refl

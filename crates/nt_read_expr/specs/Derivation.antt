@@ -109,7 +109,7 @@ mutual
   pub data Select (limit : ℕ) : ℕ → Bool → Place → Expr → Tokens → Expr → Type 0 where
     -- . name   (7.2)
     member : {d : ℕ} {free : Bool} {name : List ℕ} {at : Place} {x : Expr} (o t : Token)
-        → o.kind ≡ k.Mark m.Dot → t.kind ≡ k.Name name → is_member free name ≡ true → Select limit d free at x (o ∷ t ∷ []) (e.Member at x name)
+        → o.kind ≡ k.Mark m.Dot → t.kind ≡ k.Name name → is_member free name ≡ true → Select limit d free at x (o ∷ t ∷ []) (e.Member at x t.at name)
     -- [ expression ]   (7.4.6, 11.5.1)
     item : {d : ℕ} {free : Bool} {ts : Tokens} {at : Place} {x y : Expr} (o c : Token)
         → o.kind ≡ k.Mark m.LeftBracket → Expression limit d ts y → c.kind ≡ k.Mark m.RightBracket

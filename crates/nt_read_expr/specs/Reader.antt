@@ -180,7 +180,7 @@ module _ (limit : ℕ) (r : Readers) where
       if is_at m.LeftBracket ts then (do
         (y, us) ← index at x (drop 1 ts)
         Some (true, y, us))
-      else either (dotted (is_member free) ts) (Some (false, x, ts)) (λ name. Some (true, e.Member at x name, drop 2 ts))
+      else either (dotted (is_member free) ts) (Some (false, x, ts)) (λ name. Some (true, e.Member at x (start (drop 1 ts)) name, drop 2 ts))
 
   unfoldable pub selects : Bool → ℕ → Place → Expr → Tokens → Read Expr
   selects free zero at x ts = None
@@ -188,7 +188,7 @@ module _ (limit : ℕ) (r : Readers) where
       if is_at m.LeftBracket ts then (do
         (y, us) ← index at x (drop 1 ts)
         selects free f at y us)
-      else either (dotted (is_member free) ts) (Some (x, ts)) (λ name. selects free f at (e.Member at x name) (drop 2 ts))
+      else either (dotted (is_member free) ts) (Some (x, ts)) (λ name. selects free f at (e.Member at x (start (drop 1 ts)) name) (drop 2 ts))
 
   unfoldable pub bracketed : Tokens → Read Expr
   bracketed ts = do

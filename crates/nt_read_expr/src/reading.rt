@@ -203,7 +203,16 @@ impl<F: Fn(Global, u32, u32, bool, &[Token]) -> Result<(Boxed<Expr>, &[Token]), 
         let Some(name) = member_first(self.alloc, free, tokens)? else {
             return Ok((false, of, tokens));
         };
-        let member = Boxed::new(self.alloc, Expr::Member { at, of, name })?;
+        let name_at = start(&tokens[1..]);
+        let member = Boxed::new(
+            self.alloc,
+            Expr::Member {
+                at,
+                of,
+                name_at,
+                name,
+            },
+        )?;
         Ok((true, member, &tokens[2..]))
     }
 

@@ -340,8 +340,8 @@ module _ (limit : ℕ) where
       (list_complete CommaOrWord (r.event limit d) (events_read d) inner (c ∷ rest) (follow_mark m.RightParen 11 c rest is_c (omega arith)) (ap (separates CommaOrWord) is_c))
       (expect_mark m.RightParen c rest is_c))
 
-  entering_complete : {d : ℕ} {ts : Tokens} {fresh : Bool} {name : List ℕ} {y : Expr} → Entering limit d ts fresh name y → (c : Token) (rest : Tokens) → c.kind ≡ k.Mark m.Semicolon
-      → (r.entering limit d (past_int (ts ++ (c ∷ rest))) ≡ Some (name, y, rest)) × (is_word w.Int (ts ++ (c ∷ rest)) ≡ fresh)
+  entering_complete : {d : ℕ} {ts : Tokens} {fresh : Bool} {p : Place} {name : List ℕ} {y : Expr} → Entering limit d ts fresh p name y → (c : Token) (rest : Tokens) → c.kind ≡ k.Mark m.Semicolon
+      → (r.entering limit d (past_int (ts ++ (c ∷ rest))) ≡ Some (name, y, rest)) × (is_word w.Int (ts ++ (c ∷ rest)) ≡ fresh) × (start (past_int (ts ++ (c ∷ rest))) ≡ p)
   unfolding r.entering past_int
   entering_complete (standing {name = name} {ts = ts} t q is_t is_q inner) c rest is_c = (
     rw (
@@ -352,6 +352,7 @@ module _ (limit : ℕ) where
       expect_mark m.Semicolon c rest is_c,
     ) refl,
     name_no_word w.Int name t (q ∷ (ts ++ (c ∷ rest))) is_t,
+    rw (name_no_word w.Int name t (q ∷ (ts ++ (c ∷ rest))) is_t) refl,
   )
   entering_complete (declared {name = name} {ts = ts} i t q is_i is_t is_q inner) c rest is_c = (
     rw (
@@ -362,6 +363,7 @@ module _ (limit : ℕ) where
       expect_mark m.Semicolon c rest is_c,
     ) refl,
     at_word w.Int i (t ∷ q ∷ (ts ++ (c ∷ rest))) is_i,
+    rw (at_word w.Int i (t ∷ q ∷ (ts ++ (c ∷ rest))) is_i) refl,
   )
 
   step_complete : {d : ℕ} {ts : Tokens} {y : Stmt} → Step limit d ts y → (r1 : Token) (rest : Tokens) → r1.kind ≡ k.Mark m.RightParen → r.step limit d (ts ++ (r1 ∷ rest)) ≡ Some (y, r1 ∷ rest)
@@ -369,15 +371,15 @@ module _ (limit : ℕ) where
   step_complete (step {name = name} {ts = ts} t is_t value) c rest is_c =
       rw (name_taken t name (ts ++ (c ∷ rest)) is_t, value_complete value (c ∷ rest) (follow_mark m.RightParen 11 c rest is_c (omega arith))) refl
 
-  reads_for : (d : ℕ) (fresh : Bool) (name : List ℕ) (y z : Expr) (v : Stmt) (o : Token) (ts us vs ws xs rest : Tokens) → o.kind ≡ k.Mark m.LeftParen
-      → (r.entering limit d (past_int ts) ≡ Some (name, y, us)) × (is_word w.Int ts ≡ fresh)
+  reads_for : (d : ℕ) (fresh : Bool) (p : Place) (name : List ℕ) (y z : Expr) (v : Stmt) (o : Token) (ts us vs ws xs rest : Tokens) → o.kind ≡ k.Mark m.LeftParen
+      → (r.entering limit d (past_int ts) ≡ Some (name, y, us)) × (is_word w.Int ts ≡ fresh) × (start (past_int ts) ≡ p)
       → x.whole limit (below limit d) us ≡ Some (z, vs) → expect m.Semicolon vs ≡ Some ws → r.step limit d ws ≡ Some (v, xs) → expect m.RightParen xs ≡ Some rest
-      → r.for_lead limit d (o ∷ ts) ≡ Some (l.For fresh name y z v, rest)
+      → r.for_lead limit d (o ∷ ts) ≡ Some (l.For fresh p name y z v, rest)
   unfolding r.for_lead r.stepping
-  reads_for d fresh name y z v o ts us vs ws xs rest is_o g h i j n = rw (expect_mark m.LeftParen o ts is_o, g.0, g.1, h, i, j, n) refl
+  reads_for d fresh p name y z v o ts us vs ws xs rest is_o g h i j n = rw (expect_mark m.LeftParen o ts is_o, g.0, g.1, g.2, h, i, j, n) refl
 
   reads_foreach : (array index : List ℕ) (o a b i c p : Token) (rest : Tokens) → o.kind ≡ k.Mark m.LeftParen → a.kind ≡ k.Name array → b.kind ≡ k.Mark m.LeftBracket → i.kind ≡ k.Name index
-      → c.kind ≡ k.Mark m.RightBracket → p.kind ≡ k.Mark m.RightParen → r.foreach (o ∷ a ∷ b ∷ i ∷ c ∷ p ∷ rest) ≡ Some (l.Foreach array index, rest)
+      → c.kind ≡ k.Mark m.RightBracket → p.kind ≡ k.Mark m.RightParen → r.foreach (o ∷ a ∷ b ∷ i ∷ c ∷ p ∷ rest) ≡ Some (l.Foreach a.at array i.at index, rest)
   unfolding r.foreach
   reads_foreach array index o a b i c p rest is_o is_a is_b is_i is_c is_p =
       rw (
@@ -425,12 +427,12 @@ module _ (limit : ℕ) where
   leads_complete {d = d} (forever_of t is_t) rest lacks = by_lead d t (k.Word w.Forever) rest is_t
   leads_complete {d = d} (foreach_of {array = array} {index = index} t o a b i c p is_t is_o is_a is_b is_i is_c is_p) rest lacks =
       by_lead d t (k.Word w.Foreach) (o ∷ a ∷ b ∷ i ∷ c ∷ p ∷ rest) is_t ∙ reads_foreach array index o a b i c p rest is_o is_a is_b is_i is_c is_p
-  leads_complete {d = d} (for_of {fresh = fresh} {name = name} {ts = ts} {us = us} {vs = vs} {x = y} {y = z} {z = v} t o c p q is_t is_o enter is_c inner is_p one is_q) rest lacks =
+  leads_complete {d = d} (for_of {fresh = fresh} {name_at = name_at} {name = name} {ts = ts} {us = us} {vs = vs} {x = y} {y = z} {z = v} t o c p q is_t is_o enter is_c inner is_p one is_q) rest lacks =
       let last_part : Tokens = vs ++ (q ∷ rest) in
       let second : Tokens = us ++ (p ∷ last_part) in
       ap (r.lead limit d) (regroup5 (t ∷ o ∷ ts) (c ∷ us) (p ∷ vs) (q ∷ []) rest)
       ∙ by_lead d t (k.Word w.For) (o ∷ (ts ++ (c ∷ second))) is_t
-      ∙ reads_for d fresh name y z v o (ts ++ (c ∷ second)) second (p ∷ last_part) last_part (q ∷ rest) rest is_o (entering_complete enter c second is_c)
+      ∙ reads_for d fresh name_at name y z v o (ts ++ (c ∷ second)) second (p ∷ last_part) last_part (q ∷ rest) rest is_o (entering_complete enter c second is_c)
       (expression_complete limit inner (p ∷ last_part) (follow_mark m.Semicolon 11 p last_part is_p (omega arith))) (expect_mark m.Semicolon p last_part is_p)
       (step_complete one q rest is_q) (expect_mark m.RightParen q rest is_q)
   leads_complete {d = d} (delay_number {v = v} t n is_t is_n) rest lacks = by_lead d t (k.Mark m.Hash) (n ∷ rest) is_t ∙ by_delay d n (k.Number v) rest is_n

@@ -84,9 +84,18 @@ module _ (file : ℕ) where
 
     -- ---- what stands before the one statement inside
 
-    entering_placed : {d i j : ℕ} {ts : Tokens} {fresh : Bool} {name : List ℕ} {y : Expr} → Entering limit d ts fresh name y → Ascending file i j ts → Placed file i j (out-Expr y)
-    entering_placed (standing t q is_t is_q inner) a = expression_placed file limit inner (rest_of file (rest_of file a))
-    entering_placed (declared c t q is_c is_t is_q inner) a = expression_placed file limit inner (rest_of file (rest_of file (rest_of file a)))
+    record EnteringPlaced (i j : ℕ) (p : Place) (y : Expr) : Type 0 where
+      middle : ℕ
+      name_in : Within file i middle p
+      value_in : Placed file middle j (out-Expr y)
+
+    entering_placed : {d i j : ℕ} {ts : Tokens} {fresh : Bool} {p : Place} {name : List ℕ} {y : Expr} → Entering limit d ts fresh p name y → Ascending file i j ts → EnteringPlaced i j p y
+    entering_placed (standing {ts = ts} t q is_t is_q inner) a =
+        let h = halves file (t ∷ []) (q ∷ ts) a in
+        record { middle = h.at; name_in = first_in file h.one; value_in = expression_placed file limit inner (rest_of file h.two) }
+    entering_placed (declared {ts = ts} c t q is_c is_t is_q inner) a =
+        let h = halves file (t ∷ []) (q ∷ ts) (rest_of file a) in
+        record { middle = h.at; name_in = first_in file h.one; value_in = expression_placed file limit inner (rest_of file h.two) }
 
     step_placed : {d i j : ℕ} {ts : Tokens} {y : Stmt} → Step limit d ts y → Ascending file i j ts → StatementPlaced file i j (out-Stmt y)
     step_placed (step {name = name} {ts = ts} t is_t value) a =
@@ -111,12 +120,15 @@ module _ (file : ℕ) where
     lead_placed body (repeat_of t is_t test) w a y low = repeat_stmt_placed (repeat_stmt_in w (tested_placed test (rest_of file a)) y)
     lead_placed body (wait_of t is_t test) w a y low = wait_placed (wait_in w (tested_placed test (rest_of file a)) y)
     lead_placed body (forever_of t is_t) w a y low = forever_placed (forever_in w (low _ (spans file a)))
-    lead_placed body (foreach_of t o a' b i c p is_t is_o is_a is_b is_i is_c is_p) w a y low = foreach_placed (foreach_in w (low _ (spans file a)))
+    lead_placed body (foreach_of t o a' b i c p is_t is_o is_a is_b is_i is_c is_p) w a y low =
+        let h = halves file (a' ∷ b ∷ []) (i ∷ c ∷ p ∷ []) (rest_of file (rest_of file a)) in
+        foreach_placed (foreach_in w (first_in file h.one) (first_in file h.two) y)
     lead_placed body (for_of {ts = ts} {us = us} {vs = vs} t o c p q is_t is_o enter is_c inner is_p one is_q) w a y low =
         let b = front_of file ((ts ++ c ∷ us) ++ p ∷ vs) (q ∷ []) (rest_of file (rest_of file a)) in
         let h = halves file (ts ++ c ∷ us) (p ∷ vs) b in
         let g = halves file ts (c ∷ us) h.one in
-        for_placed (for_in w (entering_placed enter g.one) (expression_placed file limit inner (rest_of file g.two)) (step_placed one (rest_of file h.two)) y)
+        let n = entering_placed enter g.one in
+        for_placed (for_in w n.name_in n.value_in (expression_placed file limit inner (rest_of file g.two)) (step_placed one (rest_of file h.two)) y)
     lead_placed body (delay_number t n is_t is_n) w a y low = delay_placed (delay_in w (literal_placed (literal_in (first_in file (rest_of file a)))) y)
     lead_placed body (delay_name t is_t ref) w a y low =
         let b = rest_of file a in

@@ -395,16 +395,18 @@ module _ (limit D : ℕ) where
       let q = expect_of m.RightBracket d.0.1 f.0 f.1 in
       let g = bind_some (expect m.RightParen f.0) _ _ f.2 in
       let z = expect_of m.RightParen f.0 g.0 g.1 in
-      with_first t s g.0 us (l.Foreach b.0.0 d.0.0) y (some_is _ _ g.2) (o.token ∷ n.token ∷ p.token ∷ i.token ∷ q.token ∷ z.token ∷ [])
+      with_first t s g.0 us (l.Foreach (start a.0) b.0.0 (start c.0) d.0.0) y (some_is _ _ g.2) (o.token ∷ n.token ∷ p.token ∷ i.token ∷ q.token ∷ z.token ∷ [])
       (o.is ∙ ap (λ l. o.token ∷ l) (n.is ∙ ap (λ l. n.token ∷ l) (p.is ∙ ap (λ l. p.token ∷ l) (i.is ∙ ap (λ l. i.token ∷ l) (q.is ∙ ap (λ l. q.token ∷ l) z.is)))))
-      (foreach_of t o.token n.token p.token i.token q.token z.token is_t o.is_mark n.is_name p.is_mark i.is_name q.is_mark z.is_mark)
+      (subst (λ v. Leads limit D (t ∷ o.token ∷ n.token ∷ p.token ∷ i.token ∷ q.token ∷ z.token ∷ []) (l.Foreach v b.0.0 (start c.0) d.0.0)) (sym (ap start n.is))
+      (subst (λ v. Leads limit D (t ∷ o.token ∷ n.token ∷ p.token ∷ i.token ∷ q.token ∷ z.token ∷ []) (l.Foreach n.token.at b.0.0 v d.0.0)) (sym (ap start i.is))
+      (foreach_of t o.token n.token p.token i.token q.token z.token is_t o.is_mark n.is_name p.is_mark i.is_name q.is_mark z.is_mark)))
 
-  record Entered (fresh : Bool) (name : List ℕ) (y : Expr) (s us : Tokens) : Type 0 where
+  record Entered (fresh : Bool) (p : Place) (name : List ℕ) (y : Expr) (s us : Tokens) : Type 0 where
     front : Tokens
     token : Token
     is_mark : token.kind ≡ k.Mark m.Semicolon
     split : s ≡ front ++ (token ∷ us)
-    derives : Entering limit D front fresh name y
+    derives : Entering limit D front fresh p name y
 
   record Plainly (name : List ℕ) (y : Expr) (s us : Tokens) : Type 0 where
     one : Token
@@ -442,18 +444,18 @@ module _ (limit D : ℕ) where
       } in
       subst (λ (g : List ℕ × Expr × Tokens). Plainly g.0 g.1 s g.2) p all
 
-  entering_sound : (s us : Tokens) (name : List ℕ) (y : Expr) → r.entering limit D (past_int s) ≡ Some (name, y, us) → Entered (is_word w.Int s) name y s us
+  entering_sound : (s us : Tokens) (name : List ℕ) (y : Expr) → r.entering limit D (past_int s) ≡ Some (name, y, us) → Entered (is_word w.Int s) (start (past_int s)) name y s us
   unfolding past_int
   entering_sound s us name y e = by_word (is_word w.Int s) refl
     where
-      by_word : (b : Bool) → is_word w.Int s ≡ b → Entered b name y s us
+      by_word : (b : Bool) → is_word w.Int s ≡ b → Entered b (start (if b then drop 1 s else s)) name y s us
       by_word true g =
           let i = word_of w.Int s g in
           let v = plainly_sound (drop 1 s) us name y (ap (λ (c : Bool). r.entering limit D (if c then drop 1 s else s)) (sym g) ∙ e) in
-          record { front = i.token ∷ v.one ∷ v.two ∷ v.front; token = v.token; is_mark = v.is_mark; split = i.is ∙ ap (λ l. i.token ∷ l) v.split; derives = declared i.token v.one v.two i.is_word v.is_name v.is_assign v.derives }
+          record { front = i.token ∷ v.one ∷ v.two ∷ v.front; token = v.token; is_mark = v.is_mark; split = i.is ∙ ap (λ l. i.token ∷ l) v.split; derives = subst (λ p. Entering limit D (i.token ∷ v.one ∷ v.two ∷ v.front) true p name y) (sym (ap start v.split)) (declared i.token v.one v.two i.is_word v.is_name v.is_assign v.derives) }
       by_word false g =
           let v = plainly_sound s us name y (ap (λ (c : Bool). r.entering limit D (if c then drop 1 s else s)) (sym g) ∙ e) in
-          record { front = v.one ∷ v.two ∷ v.front; token = v.token; is_mark = v.is_mark; split = v.split; derives = standing v.one v.two v.is_name v.is_assign v.derives }
+          record { front = v.one ∷ v.two ∷ v.front; token = v.token; is_mark = v.is_mark; split = v.split; derives = subst (λ p. Entering limit D (v.one ∷ v.two ∷ v.front) false p name y) (sym (ap start v.split)) (standing v.one v.two v.is_name v.is_assign v.derives) }
 
   step_sound : (s us : Tokens) (y : Stmt) → r.step limit D s ≡ Some (y, us) → Took (λ p. Step limit D p y) s us
   unfolding r.step
@@ -484,7 +486,7 @@ module _ (limit D : ℕ) where
       let n = step_sound d.0 f.0.1 f.0.0 f.1 in
       let g = bind_some (expect m.RightParen f.0.1) _ _ f.2 in
       let z = expect_of m.RightParen f.0.1 g.0 g.1 in
-      with_first t s g.0 us (l.For fresh b.0.0 b.0.1 c.0.0 f.0.0) y (some_is _ _ g.2) (((o.token ∷ i.front ++ i.token ∷ j.front) ++ p.token ∷ n.front) ++ z.token ∷ [])
+      with_first t s g.0 us (l.For fresh (start (past_int a.0)) b.0.0 b.0.1 c.0.0 f.0.0) y (some_is _ _ g.2) (((o.token ∷ i.front ++ i.token ∷ j.front) ++ p.token ∷ n.front) ++ z.token ∷ [])
       (o.is ∙ ap (λ l. o.token ∷ l) (i.split ∙ ap (λ l. i.front ++ (i.token ∷ l)) (j.split ∙ ap (λ l. j.front ++ l) (p.is ∙ ap (λ l. p.token ∷ l) (n.split ∙ ap (λ l. n.front ++ l) z.is))))
       ∙ sym (regroup5 (o.token ∷ i.front) (i.token ∷ j.front) (p.token ∷ n.front) (z.token ∷ []) g.0))
       (for_of t o.token i.token p.token z.token is_t o.is_mark i.derives i.is_mark j.derives p.is_mark n.derives z.is_mark)

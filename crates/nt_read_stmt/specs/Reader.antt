@@ -100,7 +100,7 @@ foreach ts = do
   (index, xs) ← take_name ws
   ys ← expect m.RightBracket xs
   zs ← expect m.RightParen ys
-  Some (l.Foreach array index, zs)
+  Some (l.Foreach (start us) array (start ws) index, zs)
 
 -- past `int`
 unfoldable pub past_int : Tokens → Tokens
@@ -228,19 +228,19 @@ module _ (limit d : ℕ) where
     (y, vs) ← value (start ts) (plain_read (start ts) name) us
     Some (s.Assign (start ts) (plain_read (start ts) name) y, vs)
 
-  unfoldable pub stepping : Bool → List ℕ → Expr → Tokens → Read Lead
-  stepping fresh name x ts = do
+  unfoldable pub stepping : Bool → Place → List ℕ → Expr → Tokens → Read Lead
+  stepping fresh p name x ts = do
     (y, us) ← whole limit (below limit d) ts
     vs ← expect m.Semicolon us
     (z, ws) ← step vs
     zs ← expect m.RightParen ws
-    Some (l.For fresh name x y z, zs)
+    Some (l.For fresh p name x y z, zs)
 
   unfoldable pub for_lead : Tokens → Read Lead
   for_lead ts = do
     us ← expect m.LeftParen ts
     (name, x, vs) ← entering (past_int us)
-    stepping (is_word w.Int us) name x vs
+    stepping (is_word w.Int us) (start (past_int us)) name x vs
 
   abbrev pub delay_by : TokenKind → Place → Tokens → Tokens → Read Lead
   delay_by (k.Number v) at ts us = Some (l.Delay (e.Literal at v), us)

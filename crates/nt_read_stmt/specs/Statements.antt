@@ -99,14 +99,14 @@ pub data Simple (limit : ℕ) : ℕ → Tokens → Stmt → Type 0 where
   finish_of : {d : ℕ} {name : List ℕ} {v : Literal} (t o x p c : Token) → t.kind ≡ k.System name → task_of name ≡ Some Finish → o.kind ≡ k.Mark m.LeftParen
       → x.kind ≡ k.Number v → p.kind ≡ k.Mark m.RightParen → c.kind ≡ k.Mark m.Semicolon → Simple limit d (t ∷ o ∷ x ∷ p ∷ c ∷ []) (s.Finish t.at)
 
--- what `for` writes first: whether its variable is declared there, its name and its first value (12.7.1, A.6.8)
-pub data Entering (limit : ℕ) : ℕ → Tokens → Bool → List ℕ → Expr → Type 0 where
+-- what `for` writes first: whether its variable is declared there, the place of its name, the name, and its first value (12.7.1, A.6.8)
+pub data Entering (limit : ℕ) : ℕ → Tokens → Bool → Place → List ℕ → Expr → Type 0 where
   -- name = expression
   standing : {d : ℕ} {name : List ℕ} {ts : Tokens} {x : Expr} (t q : Token) → t.kind ≡ k.Name name → q.kind ≡ k.Mark m.Assign → Expression limit d ts x
-      → Entering limit d (t ∷ q ∷ ts) false name x
+      → Entering limit d (t ∷ q ∷ ts) false t.at name x
   -- int name = expression
   declared : {d : ℕ} {name : List ℕ} {ts : Tokens} {x : Expr} (i t q : Token) → i.kind ≡ k.Word w.Int → t.kind ≡ k.Name name → q.kind ≡ k.Mark m.Assign
-      → Expression limit d ts x → Entering limit d (i ∷ t ∷ q ∷ ts) true name x
+      → Expression limit d ts x → Entering limit d (i ∷ t ∷ q ∷ ts) true t.at name x
 
 -- the step of `for`, which is no statement inside a statement (12.7.1, A.6.8)
 pub data Step (limit : ℕ) : ℕ → Tokens → Stmt → Type 0 where
@@ -134,11 +134,11 @@ pub data Leads (limit : ℕ) : ℕ → Tokens → Lead → Type 0 where
   -- foreach ( name [ name ] )   (12.7.3, A.6.8)
   foreach_of : {d : ℕ} {array index : List ℕ} (t o a b i c p : Token) → t.kind ≡ k.Word w.Foreach → o.kind ≡ k.Mark m.LeftParen → a.kind ≡ k.Name array
       → b.kind ≡ k.Mark m.LeftBracket → i.kind ≡ k.Name index → c.kind ≡ k.Mark m.RightBracket → p.kind ≡ k.Mark m.RightParen
-      → Leads limit d (t ∷ o ∷ a ∷ b ∷ i ∷ c ∷ p ∷ []) (l.Foreach array index)
+      → Leads limit d (t ∷ o ∷ a ∷ b ∷ i ∷ c ∷ p ∷ []) (l.Foreach a.at array i.at index)
   -- for ( entering ; expression ; step )   (12.7.1, A.6.8)
-  for_of : {d : ℕ} {fresh : Bool} {name : List ℕ} {ts us vs : Tokens} {x y : Expr} {z : Stmt} (t o c p r : Token) → t.kind ≡ k.Word w.For → o.kind ≡ k.Mark m.LeftParen
-      → Entering limit d ts fresh name x → c.kind ≡ k.Mark m.Semicolon → Expression limit d us y → p.kind ≡ k.Mark m.Semicolon → Step limit d vs z
-      → r.kind ≡ k.Mark m.RightParen → Leads limit d (t ∷ o ∷ ts ++ c ∷ us ++ p ∷ vs ++ r ∷ []) (l.For fresh name x y z)
+  for_of : {d : ℕ} {fresh : Bool} {name_at : Place} {name : List ℕ} {ts us vs : Tokens} {x y : Expr} {z : Stmt} (t o c p r : Token) → t.kind ≡ k.Word w.For → o.kind ≡ k.Mark m.LeftParen
+      → Entering limit d ts fresh name_at name x → c.kind ≡ k.Mark m.Semicolon → Expression limit d us y → p.kind ≡ k.Mark m.Semicolon → Step limit d vs z
+      → r.kind ≡ k.Mark m.RightParen → Leads limit d (t ∷ o ∷ ts ++ c ∷ us ++ p ∷ vs ++ r ∷ []) (l.For fresh name_at name x y z)
   -- # number   (9.4.1, A.6.5)
   delay_number : {d : ℕ} {v : Literal} (t n : Token) → t.kind ≡ k.Mark m.Hash → n.kind ≡ k.Number v → Leads limit d (t ∷ n ∷ []) (l.Delay (e.Literal n.at v))
   -- # reference

@@ -75,8 +75,8 @@ with_body at (l.While test) body = s.While at test body
 with_body at (l.Repeat count) body = s.Repeat at count body
 with_body at (l.Wait test) body = s.Wait at test body
 with_body at l.Forever body = s.Forever at body
-with_body at (l.Foreach array index) body = s.Foreach at array index body
-with_body at (l.For fresh name from test step) body = s.For at fresh name from test step body
+with_body at (l.Foreach p array q index) body = s.Foreach at p array q index body
+with_body at (l.For fresh p name from test step) body = s.For at fresh p name from test step body
 with_body at (l.Delay amount) body = s.Delay at amount body
 with_body at (l.Event any on) body = s.Event at any on body
 

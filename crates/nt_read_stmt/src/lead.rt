@@ -19,10 +19,16 @@ pub enum Lead {
     /// `forever`
     Forever,
     /// `foreach (array[index])`
-    Foreach(Name, Name),
+    Foreach {
+        array_at: Place,
+        array: Name,
+        index_at: Place,
+        index: Name,
+    },
     /// `for (name = first; test; step)`, which declares the name where `fresh`
     For {
         fresh: bool,
+        name_at: Place,
         name: Name,
         first: Boxed<Expr>,
         test: Boxed<Expr>,
@@ -60,17 +66,25 @@ pub(crate) fn with_body(
             Boxed::new(alloc, Stmt::Wait { at, test, body })
         }
         Lead::Forever => Boxed::new(alloc, Stmt::Forever { at, body }),
-        Lead::Foreach(array, index) => Boxed::new(
+        Lead::Foreach {
+            array_at,
+            array,
+            index_at,
+            index,
+        } => Boxed::new(
             alloc,
             Stmt::Foreach {
                 at,
+                array_at,
                 array,
+                index_at,
                 index,
                 body,
             },
         ),
         Lead::For {
             fresh,
+            name_at,
             name,
             first,
             test,
@@ -80,6 +94,7 @@ pub(crate) fn with_body(
             Stmt::For {
                 at,
                 fresh,
+                name_at,
                 name,
                 first: first.into_inner(),
                 test: test.into_inner(),

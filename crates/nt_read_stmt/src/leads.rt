@@ -20,12 +20,22 @@ fn foreach(alloc: Global, tokens: &[Token]) -> Result<(Lead, &[Token]), Stop>
     ensures { Gives (λ x. (x.0, x.1.now)) result (spec.foreach tokens.now) }
 {
     let rest = expect(Mark::LeftParen, tokens)?;
+    let array_at = start(rest);
     let (array, rest) = take_name(alloc, rest)?;
     let rest = expect(Mark::LeftBracket, rest)?;
+    let index_at = start(rest);
     let (index, rest) = take_name(alloc, rest)?;
     let rest = expect(Mark::RightBracket, rest)?;
     let rest = expect(Mark::RightParen, rest)?;
-    Ok((Lead::Foreach(array, index), rest))
+    Ok((
+        Lead::Foreach {
+            array_at,
+            array,
+            index_at,
+            index,
+        },
+        rest,
+    ))
 }
 
 /// The name and the first value of the variable of `for`.
@@ -84,11 +94,12 @@ fn stepping(
     limit: u32,
     depth: u32,
     fresh: bool,
+    name_at: Place,
     name: Name,
     first: Boxed<Expr>,
     tokens: &[Token],
 ) -> Result<(Lead, &[Token]), Stop>
-    ensures { Gives (λ x. (x.0, x.1.now)) result (spec.stepping limit depth fresh name first tokens.now) }
+    ensures { Gives (λ x. (x.0, x.1.now)) result (spec.stepping limit depth fresh name_at name first tokens.now) }
 {
     let (test, rest) = expression_in(alloc, limit, depth, tokens)?;
     let rest = expect(Mark::Semicolon, rest)?;
@@ -97,6 +108,7 @@ fn stepping(
     Ok((
         Lead::For {
             fresh,
+            name_at,
             name,
             first,
             test,
@@ -117,8 +129,10 @@ fn for_lead(
 {
     let rest = expect(Mark::LeftParen, tokens)?;
     let fresh = is_word(Word::Int, rest);
-    let (name, first, rest) = entering(alloc, limit, depth, past_int(rest))?;
-    stepping(alloc, limit, depth, fresh, name, first, rest)
+    let rest = past_int(rest);
+    let name_at = start(rest);
+    let (name, first, rest) = entering(alloc, limit, depth, rest)?;
+    stepping(alloc, limit, depth, fresh, name_at, name, first, rest)
 }
 
 /// What `#` waits for.

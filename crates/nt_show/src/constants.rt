@@ -439,6 +439,7 @@ fn read_never(alloc: Global, trees: &mut Vec<Read>, at: u32, word: &str) -> Resu
                 Expr::Member {
                     at: place(at),
                     of,
+                    name_at: place(at),
                     name,
                 },
             )

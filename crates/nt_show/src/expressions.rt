@@ -17,7 +17,7 @@ pub(crate) fn say_expr(expr: &Expr, out: &mut Text) -> Result<(), AllocError> {
             begin(*at, b"", out)?;
             say_path(*at, path, out)
         }
-        Expr::Member { at, of, name } => {
+        Expr::Member { at, of, name, .. } => {
             begin(*at, b"(", out)?;
             say_then(of, b" .", out)?;
             out.push_bytes(name.items())?;

@@ -135,6 +135,7 @@ pub(crate) fn say_stmt(stmt: &Stmt, out: &mut Text) -> Result<(), AllocError> {
             test,
             step,
             body,
+            ..
         } => {
             begin(
                 *at,
@@ -163,6 +164,7 @@ pub(crate) fn say_stmt(stmt: &Stmt, out: &mut Text) -> Result<(), AllocError> {
             array,
             index,
             body,
+            ..
         } => {
             begin(*at, b"foreach(", out)?;
             say_name(array, b" ", out)?;

@@ -16,7 +16,7 @@ pub any_hides-returns : goal.any_hides-returns
 any_hides-returns g t c = seek_done _ c.loop-part.part-index c.loop-part-test.false c.loop-part.invariant
 
 pub hides-returns-in-Member : goal.hides-returns-in-Member
-hides-returns-in-Member g t c = hides_at (g.L.Lookup.sees c.args.known.now) true _ _ (seen_member _ _ _ _ c.in-Member.is) (never (member _ _ _))
+hides-returns-in-Member g t c = hides_at (g.L.Lookup.sees c.args.known.now) true _ _ (seen_member _ _ _ _ _ c.in-Member.is) (never (member _ _ _ _))
 
 pub hides-returns-in-Pattern : goal.hides-returns-in-Pattern
 hides-returns-in-Pattern g t c = hides_at (g.L.Lookup.sees c.args.known.now) true _ _ (seen_pattern _ _ _ c.in-Pattern.is) (never (pattern _ _))

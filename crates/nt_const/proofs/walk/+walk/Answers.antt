@@ -186,7 +186,7 @@ draft-returns-in-Literal g t c =
 pub draft-returns-in-Member : goal.draft-returns-in-Member
 draft-returns-in-Member g t c =
     let k = g.L.Lookup.sees c.args.known.now in
-    rw c.refused.ensures (refuses_at k _ _ _ (seen_member _ _ _ _ c.in-Member.is) (refuse_wrong _ _ _ (not_constant _ (member _ _ _))))
+    rw c.refused.ensures (refuses_at k _ _ _ (seen_member _ _ _ _ _ c.in-Member.is) (refuse_wrong _ _ _ (not_constant _ (member _ _ _ _))))
 
 pub draft-returns-in-Pattern : goal.draft-returns-in-Pattern
 draft-returns-in-Pattern g t c =
