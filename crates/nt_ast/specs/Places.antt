@@ -42,6 +42,29 @@ place_of (Expr-F.Size at x) = at
 place_of (Expr-F.Time at) = at
 place_of (Expr-F.Sign at s x) = at
 
+-- where a statement begins
+abbrev pub statement_place : Stmt-F Stmt → Place
+statement_place (Stmt-F.Null at) = at
+statement_place (Stmt-F.Block at xs) = at
+statement_place (Stmt-F.Assign at x y) = at
+statement_place (Stmt-F.Nonblocking at x y) = at
+statement_place (Stmt-F.If at x y other) = at
+statement_place (Stmt-F.Case at x arms other) = at
+statement_place (Stmt-F.While at x y) = at
+statement_place (Stmt-F.Repeat at x y) = at
+statement_place (Stmt-F.For at fresh p name x y z v) = at
+statement_place (Stmt-F.Forever at y) = at
+statement_place (Stmt-F.Foreach at p array q index y) = at
+statement_place (Stmt-F.Delay at x y) = at
+statement_place (Stmt-F.Event at any xs y) = at
+statement_place (Stmt-F.Wait at x y) = at
+statement_place (Stmt-F.Return at x) = at
+statement_place (Stmt-F.Break at) = at
+statement_place (Stmt-F.Continue at) = at
+statement_place (Stmt-F.Call at path xs) = at
+statement_place (Stmt-F.Display at text xs) = at
+statement_place (Stmt-F.Finish at) = at
+
 -- in this file, from the first offset on and below the second
 pub record Within (file i j : ℕ) (at : Place) : Type 0 where
   pub same : at.file ≡ file

@@ -2,7 +2,6 @@
 ghost use Rattle.std.specs.Prelude.{◌≡◌, IfOk};
 
 use crate::{Key, Path};
-use nt_value::Text;
 use std::alloc::{AllocError, Global};
 
 pub(crate) fn copy_path(alloc: Global, path: &Path) -> Result<Path, AllocError>
@@ -28,11 +27,4 @@ pub(crate) fn copy_key(alloc: Global, key: &Option<Key>) -> Result<Option<Key>, 
         Some(Key::Other) => Ok(Some(Key::Other)),
         Some(Key::Member(name)) => Ok(Some(Key::Member(name.copy(alloc)?))),
     }
-}
-
-pub(crate) fn copy_text(alloc: Global, text: &Text) -> Result<Text, AllocError>
-    ensures { IfOk result (λ copy. copy ≡ text.now) }
-{
-    let bytes = Vec::from_slice(alloc, text.items())?;
-    Ok(Text::new(bytes))
 }

@@ -2,7 +2,7 @@
 ghost use Rattle.std.specs.Prelude.{◌≡◌, IfOk};
 
 use crate::copy::{copy_all, copy_expr};
-use crate::copy_parts::{copy_path, copy_text};
+use crate::copy_parts::copy_path;
 use crate::copy_types::copy_some;
 use crate::{Expr, Stmt};
 use nt_value::Edge;
@@ -197,7 +197,7 @@ pub fn copy_stmt(alloc: Global, stmt: &Stmt) -> Result<Stmt, AllocError>
             })
         }
         Stmt::Display { at, text, args } => {
-            let text = copy_text(alloc, text)?;
+            let text = text.copy(alloc)?;
             let args = copy_all(alloc, args)?;
             Ok(Stmt::Display {
                 at: *at,

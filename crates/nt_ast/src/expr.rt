@@ -1,4 +1,8 @@
 // Trees of expressions.
+ghost use Rattle.std.specs.Prelude.{◌≡◌};
+ghost use Rattle.nt_ast.specs.Places.{place_of};
+ghost use Rattle.nt_ast.specs.declared.expr.Expr.TheViews.{out-Expr};
+
 use crate::Path;
 use nt_value::{Binary, Literal, Name, Place, Unary};
 use sqlite_items::{Boxed, Items};
@@ -110,4 +114,30 @@ pub enum Expr {
         signed: bool,
         of: Boxed<Expr>,
     },
+}
+
+impl Expr {
+    /// Where the expression begins: the place of its first token.
+    pub fn at(&self) -> Place
+        ensures { result ≡ place_of (out-Expr self.now) }
+    {
+        match self {
+            Expr::Literal { at, .. } => *at,
+            Expr::Read { at, .. } => *at,
+            Expr::Member { at, .. } => *at,
+            Expr::Item { at, .. } => *at,
+            Expr::Part { at, .. } => *at,
+            Expr::Indexed { at, .. } => *at,
+            Expr::Unary { at, .. } => *at,
+            Expr::Binary { at, .. } => *at,
+            Expr::Choose { at, .. } => *at,
+            Expr::Concat { at, .. } => *at,
+            Expr::Repeat { at, .. } => *at,
+            Expr::Pattern { at, .. } => *at,
+            Expr::Call { at, .. } => *at,
+            Expr::Size { at, .. } => *at,
+            Expr::Time { at } => *at,
+            Expr::Sign { at, .. } => *at,
+        }
+    }
 }

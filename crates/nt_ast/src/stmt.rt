@@ -1,4 +1,8 @@
 // Trees of statements.
+ghost use Rattle.std.specs.Prelude.{◌≡◌};
+ghost use Rattle.nt_ast.specs.Places.{statement_place};
+ghost use Rattle.nt_ast.specs.declared.stmt.Stmt.TheViews.{out-Stmt};
+
 use crate::{Expr, Path};
 use nt_value::{Edge, Name, Place, Text};
 use sqlite_items::{Boxed, Items};
@@ -127,4 +131,34 @@ pub enum Stmt {
     Finish {
         at: Place,
     },
+}
+
+impl Stmt {
+    /// Where the statement begins: the place of its first token.
+    pub fn at(&self) -> Place
+        ensures { result ≡ statement_place (out-Stmt self.now) }
+    {
+        match self {
+            Stmt::Null { at } => *at,
+            Stmt::Block { at, .. } => *at,
+            Stmt::Assign { at, .. } => *at,
+            Stmt::Nonblocking { at, .. } => *at,
+            Stmt::If { at, .. } => *at,
+            Stmt::Case { at, .. } => *at,
+            Stmt::While { at, .. } => *at,
+            Stmt::Repeat { at, .. } => *at,
+            Stmt::For { at, .. } => *at,
+            Stmt::Forever { at, .. } => *at,
+            Stmt::Foreach { at, .. } => *at,
+            Stmt::Delay { at, .. } => *at,
+            Stmt::Event { at, .. } => *at,
+            Stmt::Wait { at, .. } => *at,
+            Stmt::Return { at, .. } => *at,
+            Stmt::Break { at } => *at,
+            Stmt::Continue { at } => *at,
+            Stmt::Call { at, .. } => *at,
+            Stmt::Display { at, .. } => *at,
+            Stmt::Finish { at } => *at,
+        }
+    }
 }

@@ -1,5 +1,5 @@
 -- Leaves of operands and results, and values that need no other expression.
-use Rattle.std.specs.Prelude.{◌≡◌, ℕ, zero, suc, ◌+◌, ◌-◌, ◌^◌, ◌<◌, ◌≤◌, nat_lt, nat_le, max, min, Bool, true, false, not, ◌&&◌, ◌||◌, if◌then◌else◌, List, [], ◌∷◌, ◌++◌, Option, Some, None, slice_get, codes}
+use Rattle.std.specs.Prelude.{◌≡◌, ℕ, zero, suc, ◌+◌, ◌-◌, ◌^◌, ◌<◌, ◌≤◌, nat_lt, nat_le, max, min, Bool, true, false, not, ◌&&◌, ◌||◌, if◌then◌else◌, List, [], ◌∷◌, ◌++◌, Option, Some, None, slice_get}
 use Rattle.std.specs.Map.{lookup}
 use Rattle.std.specs.Str.{bytes_eq}
 use Rattle.nt_value.specs.Digits.{LeafValue, is_known, is_one, all_known, number_of}
@@ -13,6 +13,7 @@ use Rattle.nt_value.specs.declared.operator.Unary.{Unary}
 use Rattle.nt_value.specs.declared.operator.Unary.TheVariants as u
 use Rattle.nt_value.specs.declared.operator.Binary.{Binary}
 use Rattle.nt_value.specs.declared.operator.Binary.TheVariants as o
+use Rattle.nt_ast.specs.Names.{path_name}
 use Rattle.nt_ast.specs.declared.path.Path.{Path}
 use Rattle.nt_const.specs.declared.seen.Seen.{Seen}
 use Rattle.nt_const.specs.declared.seen.Seen.TheVariants as seen
@@ -266,14 +267,6 @@ named ks name = lookup (bytes_eq name) ks
 -- one name has this value, and all others what they had
 abbrev pub inserted : List ℕ → LeafValue → (List ℕ → Option LeafValue) → List ℕ → Option LeafValue
 inserted name value k other = if bytes_eq name other then Some value else k other
-
--- a name of a package stands under package::name
-abbrev pub full_name : Option (List ℕ) → List ℕ → List ℕ
-full_name None name = name
-full_name (Some scope) name = scope ++ codes "::" ++ name
-
-abbrev pub path_name : Path → List ℕ
-path_name path = full_name path.scope path.name
 
 -- what is seen of a name that has this value or none
 abbrev pub seen_as : Option LeafValue → Seen

@@ -1,6 +1,6 @@
 // Names of constants with their values.
-ghost use Rattle.std.specs.Prelude.{◌≡◌, ◌++◌, codes, List, ℕ, Option, IfOk, OnOk, OnErr, []};
-ghost use Rattle.nt_const.specs.Tables.{full_name, inserted, named, names_in, path_name};
+ghost use Rattle.std.specs.Prelude.{◌≡◌, List, ℕ, OnOk, OnErr, []};
+ghost use Rattle.nt_const.specs.Tables.{inserted, named, names_in};
 
 use crate::{Lookup, Seen};
 use indexmap::IndexMap;
@@ -53,33 +53,12 @@ impl Constants {
     }
 }
 
-fn package_name(alloc: Global, scope: &Name, name: &Name) -> Result<Name, AllocError>
-    ensures { IfOk result (λ n. n ≡ scope.now ++ codes "::" ++ name.now) }
-{
-    let mut bytes = Vec::from_slice(alloc, scope.items())?;
-    bytes.extend_from_slice(b"::")?;
-    bytes.extend_from_slice(name.items())?;
-    Ok(Name::new(bytes))
-}
-
-// The value of a path.
-fn value_of(alloc: Global, path: &Path, known: &Constants) -> Result<Option<Bits>, AllocError>
-    ensures { IfOk result (λ v. v ≡ named known.now (path_name path.now)) }
-{
-    match &path.scope {
-        None => Ok(known.get(&path.name)),
-        Some(scope) => {
-            let name = package_name(alloc, scope, &path.name)?;
-            Ok(known.get(&name))
-        }
-    }
-}
-
 impl Lookup for Constants {
     ghost sees = { names_in };
 
     fn look(&self, alloc: Global, path: &Path) -> Result<Seen, AllocError> {
-        match value_of(alloc, path, self)? {
+        let name = path.full_name(alloc)?;
+        match self.get(&name) {
             Some(value) => Ok(Seen::Value(value)),
             None => Ok(Seen::Unknown),
         }

@@ -7,7 +7,7 @@ ghost use Rattle.nt_const.specs.Tables.{context, names_in, target};
 use crate::draft::{close, size_of};
 use crate::forms::hides;
 use crate::size::Size;
-use crate::walk::{draft, place};
+use crate::walk::draft;
 use crate::{Constants, Lookup};
 use nt_ast::Expr;
 use nt_diag::{Fault, Rule};
@@ -52,7 +52,7 @@ pub fn width_and_sign_by<L: Lookup>(alloc: Global, expr: &Expr, known: &L) -> Re
 {
     let never = hides(alloc, expr, known)?;
     if never {
-        return Err(Fault::refused(Rule::T1, place(expr)));
+        return Err(Fault::refused(Rule::T1, expr.at()));
     }
     let a = draft(alloc, expr, known)?;
     Ok(size_of(&a).leaf())
@@ -75,7 +75,7 @@ pub fn constant_by<L: Lookup>(
 {
     let never = hides(alloc, expr, known)?;
     if never {
-        return Err(Fault::refused(Rule::T1, place(expr)));
+        return Err(Fault::refused(Rule::T1, expr.at()));
     }
     let a = draft(alloc, expr, known)?;
     let size = size_of(&a);

@@ -3,7 +3,6 @@ ghost use Rattle.std.specs.Prelude.{◌≡◌, ◌≤◌, ◌*◌, ℕ, ◌||◌
 ghost use Rattle.nt_ast.specs.declared.expr.Expr.TheOpen.{Expr-F};
 ghost use Rattle.nt_ast.specs.declared.expr.Expr.TheViews.{out-Expr};
 ghost use Rattle.nt_const.specs.Drafts.{OfClosed, OfLiteral, draft_leaf, own_value};
-ghost use Rattle.nt_ast.specs.Places.{place_of};
 ghost use Rattle.nt_const.specs.Tables.{bit, indexed_of, with_sign};
 ghost use Rattle.nt_const.specs.Walks.{Concats, CountsTo, Drafts, IndexedGives, IsWidthed, MeasuresTo, PartGives, RepeatGives, Severals, grown};
 
@@ -22,30 +21,6 @@ pub(crate) struct Several {
     pub(crate) width: u16,
     pub(crate) four: bool,
     pub(crate) value: Option<Bits>,
-}
-
-// Where an expression begins.
-pub(crate) fn place(expr: &Expr) -> Place
-    ensures { result ≡ place_of (out-Expr expr.now) }
-{
-    match expr {
-        Expr::Literal { at, .. } => *at,
-        Expr::Read { at, .. } => *at,
-        Expr::Member { at, .. } => *at,
-        Expr::Item { at, .. } => *at,
-        Expr::Part { at, .. } => *at,
-        Expr::Indexed { at, .. } => *at,
-        Expr::Unary { at, .. } => *at,
-        Expr::Binary { at, .. } => *at,
-        Expr::Choose { at, .. } => *at,
-        Expr::Concat { at, .. } => *at,
-        Expr::Repeat { at, .. } => *at,
-        Expr::Pattern { at, .. } => *at,
-        Expr::Call { at, .. } => *at,
-        Expr::Size { at, .. } => *at,
-        Expr::Time { at } => *at,
-        Expr::Sign { at, .. } => *at,
-    }
 }
 
 // The leaf of so many digits, of which more than 64 are too many.
@@ -201,7 +176,7 @@ fn counted<L: Lookup>(alloc: Global, expr: &Expr, known: &L) -> Result<u64, Faul
     if counts(value) {
         Ok(value.magnitude())
     } else {
-        Err(Fault::refused(Rule::T3, place(expr)))
+        Err(Fault::refused(Rule::T3, expr.at()))
     }
 }
 
@@ -215,7 +190,7 @@ fn measured<L: Lookup>(alloc: Global, expr: &Expr, known: &L) -> Result<u64, Fau
     if value.is_known() {
         Ok(width_of(value))
     } else {
-        Err(Fault::refused(Rule::T3, place(expr)))
+        Err(Fault::refused(Rule::T3, expr.at()))
     }
 }
 

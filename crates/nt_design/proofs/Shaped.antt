@@ -22,7 +22,7 @@ use Rattle.nt_design.proofs.Frame.{two, three}
 use Rattle.nt_design.specs.Expressions.{World, Calls, tree_step, value_of, is_decided}
 use Rattle.nt_design.specs.Fitting.{Gives, HasShapes, InBounds, LocalsFit}
 use Rattle.nt_design.specs.Parts.{Value, only, one, merged, concatenated, gathered, leaves_at, item_at, element_at, part_at, leaves_each, position_of, number_in, test_of, int_leaf, time_leaf}
-use Rattle.nt_design.specs.Shapes.{Shaped, Scope, Signature, signature_at, on_shape, on_leaf, where_so, is_same_shape, is_same_leaf, concat_leaf, all_leaves, unary_leaf, binary_leaf, are_operand_leaves, element_shape, item_shape, part_shape, leaves_shape, call_shape, are_shapes, is_shape, is_width, one_leaf, tree_shape, shape_step}
+use Rattle.nt_design.specs.Shapes.{Shaped, Scope, Signature, signature_at, on_shape, on_leaf, where_so, is_same_shape, is_same_leaf, concat_leaf, all_leaves, unary_answer, binary_answer, are_operand_leaves, element_shape, item_shape, part_shape, leaves_shape, call_shape, are_shapes, is_shape, is_width, one_leaf, tree_shape, shape_step}
 use Rattle.nt_value.specs.declared.digit.Digit.{Digit}
 use Rattle.nt_value.specs.declared.digit.Digit.TheVariants.{Zero, One, X, Z}
 use Rattle.nt_design.specs.declared.tree.Tree.{Tree}
@@ -77,7 +77,7 @@ or_same : (a b : Bool) → a ≡ b → a ≡ (a || b)
 or_same true b h = refl
 or_same false b h = h
 
-binary_has : (o : Binary) (a b : LeafValue) → (binary_of o a b).leaf ≡ binary_leaf o a.leaf b.leaf
+binary_has : (o : Binary) (a b : LeafValue) → (binary_of o a b).leaf ≡ binary_answer o a.leaf b.leaf
 binary_has op.Add a b = refl
 binary_has op.Sub a b = refl
 binary_has op.Mul a b = refl
@@ -101,7 +101,7 @@ binary_has op.CaseNe a b = refl
 binary_has op.LogicalAnd a b = refl
 binary_has op.LogicalOr a b = refl
 
-unary_has : (o : Unary) (a : LeafValue) → (unary_of o a).leaf ≡ unary_leaf o a.leaf
+unary_has : (o : Unary) (a : LeafValue) → (unary_of o a).leaf ≡ unary_answer o a.leaf
 unary_has unary.Plus a = refl
 unary_has unary.Minus a = refl
 unary_has unary.Not a = refl
@@ -281,7 +281,7 @@ gives_if true m n P h k = h refl
 gives_if false m n P h k = k
 
 -- what `&&` and `||` answer where the left operand decides
-decided_has : (o : Binary) (d : Digit) (a b : Leaf) → is_decided o d ≡ true → are_operand_leaves o a b ≡ true → unsigned_leaf 1 a.four ≡ binary_leaf o a b
+decided_has : (o : Binary) (d : Digit) (a b : Leaf) → is_decided o d ≡ true → are_operand_leaves o a b ≡ true → unsigned_leaf 1 a.four ≡ binary_answer o a b
 decided_has op.Add d a b h k = false_is h
 decided_has op.Sub d a b h k = false_is h
 decided_has op.Mul d a b h k = false_is h
@@ -422,17 +422,17 @@ module _ (scope : Scope) (calls : Calls) (world : World) (fits : HasShapes scope
         filled = one_all (part_at (number_in i) width (only v)) (part_filled (number_in i) width (only v) (only_filled v p.filled));
       })
   step (Tree-F.Unary o t) s h locals ok left =
-      let of = on_leaf_back (tree_shape scope t.0) (λ leaf. one_leaf (unary_leaf o leaf)) s h in
+      let of = on_leaf_back (tree_shape scope t.0) (λ leaf. one_leaf (unary_answer o leaf)) s h in
       gives_one (λ x. one (unary_of o (only x))) (value_of calls world t.0) (IsOne of.0) (IsValueOf s) locals left
       (t.1 (of.0 ∷ []) of.1 locals ok left)
       (λ v p. record {
-        leaves = ap (λ l. l ∷ []) (unary_has o (only v) ∙ ap (unary_leaf o) (only_leaf v of.0 p.leaves)) ∙ some_back (unary_leaf o of.0 ∷ []) s of.2;
+        leaves = ap (λ l. l ∷ []) (unary_has o (only v) ∙ ap (unary_answer o) (only_leaf v of.0 p.leaves)) ∙ some_back (unary_answer o of.0 ∷ []) s of.2;
         filled = one_all (unary_of o (only v)) (unary_filled o (only v) (only_filled v p.filled));
       })
   step (Tree-F.Binary o t u) s h locals ok left =
-      let of = on_leaf_back (tree_shape scope t.0) (λ l. on_leaf (tree_shape scope u.0) (λ r. where_so (are_operand_leaves o l r) (binary_leaf o l r ∷ []))) s h in
-      let at = on_leaf_back (tree_shape scope u.0) (λ r. where_so (are_operand_leaves o of.0 r) (binary_leaf o of.0 r ∷ [])) s of.2 in
-      let cut = where_so_back (are_operand_leaves o of.0 at.0) (binary_leaf o of.0 at.0 ∷ []) s at.2 in
+      let of = on_leaf_back (tree_shape scope t.0) (λ l. on_leaf (tree_shape scope u.0) (λ r. where_so (are_operand_leaves o l r) (binary_answer o l r ∷ []))) s h in
+      let at = on_leaf_back (tree_shape scope u.0) (λ r. where_so (are_operand_leaves o of.0 r) (binary_answer o of.0 r ∷ [])) s of.2 in
+      let cut = where_so_back (are_operand_leaves o of.0 at.0) (binary_answer o of.0 at.0 ∷ []) s at.2 in
       gives_then (value_of calls world t.0 locals left)
       (λ x l. if is_decided o (test_of x) then Some (one (one_digit (only x).leaf.four (test_of x)), l) else and_then (value_of calls world u.0 locals l) (λ y k. Some (one (binary_of o (only x) (only y)), k)))
       (IsOne of.0) (IsValueOf s)
@@ -445,7 +445,7 @@ module _ (scope : Scope) (calls : Calls) (world : World) (fits : HasShapes scope
       (gives_then (value_of calls world u.0 locals l) (λ y k. Some (one (binary_of o (only x) (only y)), k)) (IsOne at.0) (IsValueOf s)
       (u.1 (at.0 ∷ []) at.1 locals ok l)
       (λ y k q. record {
-        leaves = ap (λ l. l ∷ []) (binary_has o (only x) (only y) ∙ two (binary_leaf o) (only_leaf x of.0 p.leaves) (only_leaf y at.0 q.leaves)) ∙ cut.1;
+        leaves = ap (λ l. l ∷ []) (binary_has o (only x) (only y) ∙ two (binary_answer o) (only_leaf x of.0 p.leaves) (only_leaf y at.0 q.leaves)) ∙ cut.1;
         filled = one_all (binary_of o (only x) (only y)) (binary_filled o (only x) (only y) (only_filled x p.filled) (only_filled y q.filled) (λ e. only_leaf x of.0 p.leaves ∙ (operands_back o of.0 at.0 cut.0 e ∙ sym (only_leaf y at.0 q.leaves))));
       })))
   step (Tree-F.Choose test t u) s h locals ok left =

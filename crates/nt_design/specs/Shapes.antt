@@ -134,11 +134,11 @@ part_shape width leaf = where_so (is_width width) (unsigned_leaf width leaf.four
 
 -- ---- operators
 -- what an operator of one operand answers (11.4)
-abbrev pub unary_leaf : Unary → Leaf → Leaf
-unary_leaf Plus a = a
-unary_leaf Minus a = a
-unary_leaf Not a = a
-unary_leaf _ a = unsigned_leaf 1 a.four
+abbrev pub unary_answer : Unary → Leaf → Leaf
+unary_answer Plus a = a
+unary_answer Minus a = a
+unary_answer Not a = a
+unary_answer _ a = unsigned_leaf 1 a.four
 
 -- which operands an operator has: those of `&&` and `||` have both two or both four states, since the left one alone may
 -- decide, and others that aren't sized together are free
@@ -148,20 +148,20 @@ are_operand_leaves LogicalOr a b = beq a.four b.four
 are_operand_leaves op a b = not (is_sized_together op) || is_same_leaf a b
 
 -- what an operator of two operands answers (11.4)
-abbrev pub binary_leaf : Binary → Leaf → Leaf → Leaf
-binary_leaf Add a b = a
-binary_leaf Sub a b = a
-binary_leaf Mul a b = a
-binary_leaf Div a b = a
-binary_leaf Rem a b = a
-binary_leaf And a b = a
-binary_leaf Or a b = a
-binary_leaf Xor a b = a
-binary_leaf Xnor a b = a
-binary_leaf Shl a b = a
-binary_leaf Shr a b = a
-binary_leaf Sshr a b = a
-binary_leaf _ a b = unsigned_leaf 1 (a.four || b.four)
+abbrev pub binary_answer : Binary → Leaf → Leaf → Leaf
+binary_answer Add a b = a
+binary_answer Sub a b = a
+binary_answer Mul a b = a
+binary_answer Div a b = a
+binary_answer Rem a b = a
+binary_answer And a b = a
+binary_answer Or a b = a
+binary_answer Xor a b = a
+binary_answer Xnor a b = a
+binary_answer Shl a b = a
+binary_answer Shr a b = a
+binary_answer Sshr a b = a
+binary_answer _ a b = unsigned_leaf 1 (a.four || b.four)
 
 -- ---- lists of parts
 -- the leaf of a concatenation before its width is looked at: unsigned, and of four states where a part is (11.4.12)
@@ -198,9 +198,9 @@ shape_step scope (Tree-F.Leaves a first count) = on_shape a (leaves_shape first 
 shape_step scope (Tree-F.Item a index low size up) = on_shape a (λ s. on_leaf index (λ i. item_shape size s))
 shape_step scope (Tree-F.Element index) = on_leaf index (λ i. scope.many)
 shape_step scope (Tree-F.Part a low width) = on_leaf a (λ leaf. on_leaf low (λ i. part_shape width leaf))
-shape_step scope (Tree-F.Unary op a) = on_leaf a (λ leaf. one_leaf (unary_leaf op leaf))
+shape_step scope (Tree-F.Unary op a) = on_leaf a (λ leaf. one_leaf (unary_answer op leaf))
 shape_step scope (Tree-F.Binary op a b) =
-    on_leaf a (λ l. on_leaf b (λ r. where_so (are_operand_leaves op l r) (binary_leaf op l r ∷ [])))
+    on_leaf a (λ l. on_leaf b (λ r. where_so (are_operand_leaves op l r) (binary_answer op l r ∷ [])))
 shape_step scope (Tree-F.Choose test a b) =
     on_leaf test (λ t. on_shape a (λ s. on_shape b (λ r. where_so (is_same_shape s r) s)))
 shape_step scope (Tree-F.Concat parts) = concat_shape parts

@@ -100,13 +100,6 @@ fn copy_events(alloc: Global, on: &[(Edge, Tree)]) -> Result<Items<(Edge, Tree)>
     Ok(copies)
 }
 
-// An equal text.
-fn copy_text(alloc: Global, text: &Text) -> Result<Text, AllocError>
-    ensures { IfOk result (λ t. t ≡ text.now) }
-{
-    Ok(Text::new(Vec::from_slice(alloc, text.items())?))
-}
-
 /// An equal statement.
 pub fn copy_act(alloc: Global, act: &Act) -> Result<Act, AllocError>
     ensures { IfOk result (λ a. a ≡ act.now) }
@@ -326,7 +319,7 @@ pub fn copy_act(alloc: Global, act: &Act) -> Result<Act, AllocError>
             })
         }
         Act::Display { text, args, at } => {
-            let text = copy_text(alloc, text)?;
+            let text = text.copy(alloc)?;
             let args = copy_trees(alloc, args.as_slice())?;
             Ok(Act::Display {
                 text,

@@ -14,6 +14,7 @@ use Rattle.nt_diag.specs.declared.refusal.Fault.TheVariants as fault
 use Rattle.nt_lexer.specs.Bytes.{Bytes}
 use Rattle.nt_lexer.specs.Directives.{exponent}
 use Rattle.nt_lexer.specs.Pieces.{piece}
+use Rattle.nt_lexer.specs.declared.cut.TheConstants.{MOST_TOKENS}
 use Rattle.nt_lexer.specs.declared.kinds.Head.{Head}
 use Rattle.nt_lexer.specs.declared.kinds.Piece.{Piece}
 use Rattle.nt_lexer.specs.declared.kinds.Piece.TheVariants as p
@@ -53,7 +54,7 @@ unfoldable pub outcome : Head → Place → Piece → Outcome
 outcome head at (p.Skip n) = goes n head []
 outcome head at (p.Scale n unit) = if agrees head.unit unit then goes n (record { unit = Some unit; count = head.count }) [] else stops X5 0
 outcome head at (p.Take n kind) =
-    if nat_lt head.count 1000000 then goes n (record { unit = head.unit; count = head.count + 1 }) (record { kind = kind; at = at } ∷ []) else stops X7 0
+    if nat_lt head.count MOST_TOKENS then goes n (record { unit = head.unit; count = head.count + 1 }) (record { kind = kind; at = at } ∷ []) else stops X7 0
 outcome head at (p.Wrong rule n) = stops rule n
 
 abbrev pub next : ℕ → Bytes → ℕ → Head → Outcome

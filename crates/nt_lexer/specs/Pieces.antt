@@ -2,6 +2,7 @@
 use Rattle.std.specs.Prelude.{ℕ, ◌+◌, Bool, true, false, not, ◌==◌, ◌&&◌, ◌||◌, nat_eq, nat_lt, if◌then◌else◌, List, [], ◌∷◌, ◌++◌, length, take, drop, Option, Some, None}
 use Rattle.std.specs.List.{prefix_len, starts_with}
 use Rattle.nt_value.specs.declared.digit.Digit.{Digit}
+use Rattle.nt_value.specs.declared.leaf.TheConstants.{WIDEST}
 use Rattle.nt_value.specs.declared.unit.Unit.{Unit as TimeUnit}
 use Rattle.nt_diag.specs.declared.rule.Rule.TheVariants.{X1, X2, X3, X4, X5}
 use Rattle.nt_lexer.specs.Bytes.{Bytes, sort, in_run}
@@ -61,7 +62,7 @@ decimal_piece len digits =
 
 unfoldable pub sized_piece : ℕ → Bytes → Based → Bytes → Piece
 sized_piece len size based rest =
-    if nat_lt 64 (decimal size) then p.Wrong X3 0
+    if nat_lt WIDEST (decimal size) then p.Wrong X3 0
     else if decimal size == 0 then p.Wrong X3 0
     else p.Take (len + (based.before + based.len)) (k.Number (based_literal (decimal size) true based rest))
 

@@ -1,6 +1,7 @@
 // The tokens of a file.
 ghost use Rattle.std.specs.Prelude.{◌≡◌, ◌+◌, ◌<◌, ◌≤◌, ◌++◌, ◌∷◌, [], OnOk, length};
 ghost use Rattle.nt_lexer.specs.Cuts as spec;
+ghost use Rattle.nt_lexer.specs.declared.cut.TheConstants as constants;
 ghost use Rattle.nt_lexer.specs.Laws.{Ascend};
 ghost use Rattle.nt_lexer.specs.Steps.{Moved, Steps};
 
@@ -11,7 +12,11 @@ use nt_diag::{Fault, Rule};
 use nt_value::{Place, Unit};
 use std::alloc::{AllocError, Global};
 
-const MAX_COUNT: u32 = 1000000;
+/// How many tokens the files of one run may have together, the last ones of files not counted (this project's limit).
+pub const MOST_TOKENS: u32 = 1000000;
+
+/// How many bytes a file may have (this project's limit).
+pub const MOST_BYTES: u32 = 4194304;
 
 fn agrees(stated: Option<Unit>, unit: Unit) -> bool
     ensures { result ≡ spec.agrees stated unit }
@@ -24,7 +29,7 @@ fn agrees(stated: Option<Unit>, unit: Unit) -> bool
 
 // The place after one byte.
 fn step(at: Place, b: u8) -> Place
-    requires offset { at.offset < 4194304 }
+    requires offset { at.offset < constants.MOST_BYTES }
     requires line { at.line ≤ at.offset + 1 }
     requires column { at.column ≤ at.offset + 1 }
     ensures place { Moved at (b ∷ []) result }
@@ -52,7 +57,7 @@ fn step(at: Place, b: u8) -> Place
 
 // The place after these bytes.
 fn advance(start: Place, text: &[u8]) -> Place
-    requires offset { start.offset + length text.now ≤ 4194304 }
+    requires offset { start.offset + length text.now ≤ constants.MOST_BYTES }
     requires line { start.line ≤ start.offset + 1 }
     requires column { start.column ≤ start.offset + 1 }
     ensures place { Moved start text.now result }
@@ -85,12 +90,12 @@ fn take_piece(
     found: &mut Vec<Token>,
 ) -> Result<usize, Fault>
     requires some { 0 < length text.now }
-    requires offset { at.offset + length text.now ≤ 4194304 }
+    requires offset { at.offset + length text.now ≤ constants.MOST_BYTES }
     requires line { at.line ≤ at.offset + 1 }
     requires column { at.column ≤ at.offset + 1 }
-    requires count { head.old.count ≤ 1000000 }
+    requires count { head.old.count ≤ constants.MOST_TOKENS }
     ensures value { Steps text.now at head.old found.old.items result head.new found.new.items }
-    ensures count { head.new.count ≤ 1000000 }
+    ensures count { head.new.count ≤ constants.MOST_TOKENS }
     ensures unit { spec.HasUnit head.old → spec.HasUnit head.new }
 {
     match piece(alloc, text)? {
@@ -103,7 +108,7 @@ fn take_piece(
             Ok(len)
         }
         Piece::Take(len, kind) => {
-            if head.count >= MAX_COUNT {
+            if head.count >= MOST_TOKENS {
                 return Err(Fault::refused(Rule::X7, at));
             }
             add(found, Token { kind, at })?;
@@ -121,11 +126,11 @@ fn take_piece(
 ///
 /// `Refused` with the first fault of the file, and `OutOfMemory`. The head is then as it was.
 pub fn tokens(alloc: Global, file: u32, bytes: &[u8], head: &mut Head) -> Result<Vec<Token>, Fault>
-    requires within { length bytes.now ≤ 4194304 }
-    requires count { head.old.count ≤ 1000000 }
+    requires within { length bytes.now ≤ constants.MOST_BYTES }
+    requires count { head.old.count ≤ constants.MOST_TOKENS }
     ensures cut { spec.Cuts file bytes.now head.old result head.new }
     ensures ascending { Ascend file bytes.now result }
-    ensures count { head.new.count ≤ 1000000 }
+    ensures count { head.new.count ≤ constants.MOST_TOKENS }
     ensures unit { spec.HasUnit head.old → spec.HasUnit head.new }
 {
     let mut found = Vec::new(alloc);

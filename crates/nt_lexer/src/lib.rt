@@ -10,6 +10,6 @@ mod pieces;
 mod scan;
 mod texts;
 
-pub use cut::tokens;
+pub use cut::{MOST_BYTES, MOST_TOKENS, tokens};
 pub use kinds::{Head, Mark, Token, TokenKind, Word};
 pub use laws::{each_list, each_text, each_word, longest_match, one_cut};

@@ -3,6 +3,7 @@ ghost use Rattle.std.specs.Prelude.{◌≡◌, ◌+◌, ◌^◌, ◌%◌, ◌<�
 ghost use Rattle.std.specs.List.{list_all, prefix_len};
 ghost use Rattle.nt_value.specs.Arithmetic.{padded};
 ghost use Rattle.nt_value.specs.Digits.{IsLeaf};
+ghost use Rattle.nt_value.specs.declared.leaf.TheConstants.{WIDEST};
 ghost use Rattle.nt_value.specs.Values.{binary};
 ghost use Rattle.nt_lexer.specs.Numbers as spec;
 
@@ -406,7 +407,7 @@ pub(crate) fn based_value(
     text: &[u8],
 ) -> Result<Bits, AllocError>
     requires some { 1 ≤ width }
-    requires within { width ≤ 64 }
+    requires within { width ≤ WIDEST }
     ensures { IfOk result (λ bits. bits ≡ spec.based_value width signed radix text.now) }
 {
     let leaf = Leaf {
@@ -504,7 +505,7 @@ pub(crate) fn based_literal(
     text: &[u8],
 ) -> Result<Literal, AllocError>
     requires some { 1 ≤ width }
-    requires within { width ≤ 64 }
+    requires within { width ≤ WIDEST }
     requires fits { based.before + based.len ≤ length text.now }
     ensures { IfOk result (λ literal. literal ≡ spec.based_literal width sized based text.now) }
 {

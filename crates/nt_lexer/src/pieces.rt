@@ -1,6 +1,7 @@
 // What stands at the front of a text.
 ghost use Rattle.std.specs.Prelude.{◌≡◌, ◌+◌, ◌-◌, ◌<◌, ◌≤◌, IfSome, IfOk, None, Some, drop, length, map, take};
 ghost use Rattle.nt_lexer.specs.Bytes as bytes;
+ghost use Rattle.nt_lexer.specs.declared.cut.TheConstants as constants;
 ghost use Rattle.nt_lexer.specs.Numbers as numbers;
 ghost use Rattle.nt_lexer.specs.Directives.{named};
 ghost use Rattle.nt_lexer.specs.Pieces as spec;
@@ -19,7 +20,7 @@ use crate::numbers::{
 use crate::scan::{front_len, lookup_in, run_len, sort};
 use crate::texts::{begins_with, closing, inside_len, text_value};
 use nt_diag::Rule;
-use nt_value::{Name, Text};
+use nt_value::{Name, Text, WIDEST};
 use std::alloc::{AllocError, Global};
 
 // Where the words that begin with the byte stand among all.
@@ -109,7 +110,7 @@ fn sized_piece(alloc: Global, size: &[u8], based: Based, rest: &[u8]) -> Result<
     ensures value { IfOk result (λ piece. piece ≡ spec.sized_piece (length size.now) size.now based rest.now) }
     ensures fits { IfOk result (λ piece. IsPieceOf (length size.now + length rest.now) piece) }
 {
-    match decimal(size, 64) {
+    match decimal(size, u64::from(WIDEST)) {
         None | Some(0) => Ok(Piece::Wrong(Rule::X3, 0)),
         Some(width) => {
             let literal = based_literal(alloc, width as u8, true, based, rest)?;
@@ -235,7 +236,7 @@ fn tick_piece(alloc: Global, text: &[u8]) -> Result<Piece, AllocError>
 // The text with these bytes between its quotes.
 #[tactic(auto, unfolding(crate::specs::Pieces::whole_text))]
 fn whole_text(alloc: Global, inside: &[u8]) -> Result<Piece, AllocError>
-    requires { length inside.now ≤ 4194304 }
+    requires { length inside.now ≤ constants.MOST_BYTES }
     ensures value { IfOk result (λ piece. piece ≡ spec.whole_text inside.now) }
     ensures fits { IfOk result (λ piece. IsPieceOf (2 + length inside.now) piece) }
 {
@@ -250,7 +251,7 @@ fn whole_text(alloc: Global, inside: &[u8]) -> Result<Piece, AllocError>
 // The text whose opening quote stands before.
 #[tactic(auto, unfolding(crate::specs::Pieces::text_piece))]
 fn text_piece(alloc: Global, text: &[u8]) -> Result<Piece, AllocError>
-    requires { length text.now ≤ 4194304 }
+    requires { length text.now ≤ constants.MOST_BYTES }
     ensures value { IfOk result (λ piece. piece ≡ spec.text_piece text.now) }
     ensures fits { IfOk result (λ piece. IsPieceOf (1 + length text.now) piece) }
 {
@@ -298,7 +299,7 @@ fn directive_piece(text: &[u8]) -> Piece
 /// What stands at the front of the text.
 #[tactic(auto, unfolding(crate::specs::Pieces::piece))]
 pub(crate) fn piece(alloc: Global, text: &[u8]) -> Result<Piece, AllocError>
-    requires { length text.now ≤ 4194304 }
+    requires { length text.now ≤ constants.MOST_BYTES }
     ensures value { IfOk result (λ piece. piece ≡ spec.piece text.now) }
     ensures fits { IfOk result (λ piece. IsPieceOf (length text.now) piece) }
 {

@@ -12,7 +12,7 @@ use crate::kinds::{Run, Sort};
 fn is_blank(b: u8) -> bool
     ensures { result ≡ spec.is_blank b }
 {
-    b == 9 || b == 10 || b == 12 || b == 13 || b == 32
+    b == b'\t' || b == b'\n' || b == b'\x0C' || b == b'\r' || b == b' '
 }
 
 // Whether a text may have the byte.
@@ -20,7 +20,7 @@ fn is_blank(b: u8) -> bool
 fn is_plain(b: u8) -> bool
     ensures { result ≡ spec.is_plain b }
 {
-    is_blank(b) || (33 <= b && b <= 126)
+    is_blank(b) || (b'!' <= b && b <= b'~')
 }
 
 // What the byte begins.
@@ -42,7 +42,7 @@ pub(crate) fn sort(b: u8) -> Sort
         Sort::Tick
     } else if b == b'`' {
         Sort::Grave
-    } else if 33 <= b && b <= 126 && b != b'\\' {
+    } else if b'!' <= b && b <= b'~' && b != b'\\' {
         Sort::Sign
     } else {
         Sort::Bad
@@ -57,7 +57,7 @@ fn in_run(run: Run, b: u8) -> bool
         Run::Blank => is_blank(b),
         Run::Name => matches!(sort(b), Sort::Letter | Sort::Digit | Sort::Dollar),
         Run::Number => b.is_ascii_digit() || b == b'_',
-        Run::Line => b != 10,
+        Run::Line => b != b'\n',
         Run::Text => is_plain(b),
     }
 }

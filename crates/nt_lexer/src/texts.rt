@@ -18,7 +18,7 @@ fn goes_inside(escaped: bool, b: u8) -> bool
     if escaped {
         is_escape(b)
     } else {
-        !(b == b'"' || b == 10)
+        !(b == b'"' || b == b'\n')
     }
 }
 

@@ -9,7 +9,7 @@ use Rattle.nt_value.specs.declared.leaf.Leaf.{Leaf}
 use Rattle.nt_design.specs.Expressions.{value_of}
 use Rattle.nt_design.specs.Meaning.{most_turns, meaning}
 use Rattle.nt_design.specs.Parts.{Value}
-use Rattle.nt_design.specs.Shapes.{target_shape, tree_shape, on_shape, slot_shape as shape_of_slot}
+use Rattle.nt_design.specs.Shapes.{target_shape, tree_shape, on_shape, slot_shape}
 use Rattle.nt_design.specs.WellFormed.{IsDesign, IsAssign, IsDriven, design_scope, net_shapes, scope_with}
 use Rattle.nt_design.specs.declared.design.Design.{Design}
 use Rattle.nt_design.specs.declared.env.Env.{Env}
@@ -30,9 +30,9 @@ use Rattle.nt_design.proofs.Results.{default_is}
 use Rattle.nt_semantics.specs.Same.{is_same, is_one_of}
 use Rattle.nt_semantics.specs.State.{MachineState, standing_at, work_at, count_at, value_at, net_shape, more, each_below, world_of_state}
 use Rattle.nt_semantics.specs.declared.standing.Standing.TheVariants.{Over}
-use Rattle.nt_semantics.specs.StateFits.{IsStateOf, slot_shape}
+use Rattle.nt_semantics.specs.StateFits.{IsStateOf, driver_shape}
 use Rattle.nt_semantics.specs.Step.{step, is_pending_at, is_some_work, is_some_put, proc_step, update_step, only_if, in_turns, assign_step, resolve_step, drive, take_evaluation, take_resolution, set_net, contribution, is_order, is_order_of, net_value, in_order, is_pending}
-use Rattle.nt_semantics.proofs.Columns.{net_shape_there, slot_has, slot_of_net, slot_shape_there}
+use Rattle.nt_semantics.proofs.Columns.{net_shape_there, slot_has, slot_of_net, driver_shape_there}
 use Rattle.nt_semantics.specs.Wake.{wake, functions_of, reads_at, one_more_if, standing_after, work_after, waking_at}
 use Rattle.nt_design.specs.Plain.{IsPlain, IsConstantDriver, IsWholeSlot, net_of}
 use Rattle.nt_machine.specs.Plain.{IsPlainState, driven_plain, published_plain}
@@ -163,16 +163,16 @@ nets_long d s of =
 
 pub slots_long : (d : Design) (s : MachineState) → IsStateOf d s → length s.slots ≡ length d.assigns
 slots_long d s of =
-    sym (length-map s.slots shape_of) ∙ ap (λ (l : List (List Leaf)). length l) of.slots.leaves ∙ length-map d.assigns (λ (assign : Assign). slot_shape d assign.target)
+    sym (length-map s.slots shape_of) ∙ ap (λ (l : List (List Leaf)). length l) of.slots.leaves ∙ length-map d.assigns (λ (assign : Assign). driver_shape d assign.target)
 
 -- the net of a driver, and the driver's value
 pub record DrivesNet (d : Design) (a : ℕ) (assign : Assign) (value : Value) : Type 0 where
   pub net : Net
   pub here : slice_get d.nets (net_of assign.target) ≡ Some net
   pub is : IsValueOf net.shape value
-  pub slot : slot_shape d assign.target ≡ net.shape
+  pub slot : driver_shape d assign.target ≡ net.shape
 
-drives_to : (d : Design) (a : ℕ) (t : Target) (leaves : List Leaf) → IsWholeSlot t → IsDriven d.nets a t → target_shape (scope_with d [] None) t ≡ Some leaves → (net : Net) × (slice_get d.nets (net_of t) ≡ Some net) × (leaves ≡ net.shape) × (slot_shape d t ≡ net.shape)
+drives_to : (d : Design) (a : ℕ) (t : Target) (leaves : List Leaf) → IsWholeSlot t → IsDriven d.nets a t → target_shape (scope_with d [] None) t ≡ Some leaves → (net : Net) × (slice_get d.nets (net_of t) ≡ Some net) × (leaves ≡ net.shape) × (driver_shape d t ≡ net.shape)
 drives_to d a (target.Slot n slot low width) leaves whole driven is = (
   driven.0,
   driven.1,
@@ -180,14 +180,14 @@ drives_to d a (target.Slot n slot low width) leaves whole driven is = (
   net_shape_there d n driven.0 driven.1,
 )
   where
-    whole_shape : (low width : ℕ) (shape : List Leaf) → low ≡ 0 → width ≡ 0 → shape_of_slot low width shape ≡ Some shape
+    whole_shape : (low width : ℕ) (shape : List Leaf) → low ≡ 0 → width ≡ 0 → slot_shape low width shape ≡ Some shape
     whole_shape zero zero shape p q = refl
     whole_shape (suc low) width shape p q = absurd (omega (arith, p))
     whole_shape zero (suc width) shape p q = absurd (omega (arith, q))
 
     shape : target_shape (scope_with d [] None) (target.Slot n slot low width) ≡ Some (driven.0).shape
     shape =
-        ap (λ o. on_shape o (shape_of_slot low width)) (slice_get-map (λ (x : Net). x.shape) d.nets n ∙ ap (option_map (λ (x : Net). x.shape)) driven.1)
+        ap (λ o. on_shape o (slot_shape low width)) (slice_get-map (λ (x : Net). x.shape) d.nets n ∙ ap (option_map (λ (x : Net). x.shape)) driven.1)
         ∙ whole_shape low width (driven.0).shape whole.0 whole.1
 drives_to d a (target.Var v path) leaves whole driven is = absurd whole
 drives_to d a (target.Local i path) leaves whole driven is = absurd whole
@@ -250,7 +250,7 @@ evaluates_keeps d s a assign c is plain of here = record {
   moment = of.moment;
   vars = of.vars;
   nets = of.nets;
-  slots = value_set (map (λ (x : Assign). slot_shape d x.target) d.assigns) s.slots a c.constant.0 of.slots same;
+  slots = value_set (map (λ (x : Assign). driver_shape d x.target) d.assigns) s.slots a c.constant.0 of.slots same;
   standings = of.standings;
   work = of.work;
   locals = of.locals;
@@ -266,9 +266,9 @@ evaluates_keeps d s a assign c is plain of here = record {
     drives : DrivesNet d a assign c.constant.0
     drives = drives_net d a assign c (is.assigns a assign here)
 
-    same : IsValueOf (get_or (map (λ (x : Assign). slot_shape d x.target) d.assigns) a []) c.constant.0
+    same : IsValueOf (get_or (map (λ (x : Assign). driver_shape d x.target) d.assigns) a []) c.constant.0
     same =
-        subst (λ r. IsValueOf r c.constant.0) (sym drives.slot ∙ sym (slot_shape_there d a assign here)) drives.is
+        subst (λ r. IsValueOf r c.constant.0) (sym drives.slot ∙ sym (driver_shape_there d a assign here)) drives.is
 
     counts : (b : Bool) → length (if b then s.resolutions else more s.resolutions (net_of assign.target)) ≡ length d.nets
     counts true = of.resolutions

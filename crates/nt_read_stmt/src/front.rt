@@ -172,10 +172,7 @@ pub(crate) fn text_first(alloc: Global, tokens: &[Token]) -> Result<Text, Stop>
                 ..
             },
             ..
-        ] => {
-            let bytes = Vec::from_slice(alloc, text.items())?;
-            Ok(Text::new(bytes))
-        }
+        ] => Ok(text.copy(alloc)?),
         _ => Err(Stop::Refused),
     }
 }

@@ -32,18 +32,12 @@ fn nets_of<R: Rounds>(alloc: Global, rounds: &R, count: u32) -> Result<Items<Val
     Ok(values)
 }
 
-fn copy_line(alloc: Global, line: &Text) -> Result<Text, AllocError>
-    ensures { IfOk result (λ text. text ≡ line.now) }
-{
-    Ok(Text::new(Vec::from_slice(alloc, line.items())?))
-}
-
 fn lines_of<R: Rounds>(alloc: Global, rounds: &R) -> Result<Items<Text>, AllocError>
     ensures { IfOk result (λ lines. lines ≡ map (λ line. line.1) (R.meaning rounds.now).state.shown) }
 {
     let mut lines = Items::new(alloc);
     for line in rounds.shown() {
-        lines.push(copy_line(alloc, line)?)?;
+        lines.push(line.copy(alloc)?)?;
     }
     Ok(lines)
 }

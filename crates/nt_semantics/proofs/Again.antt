@@ -29,7 +29,7 @@ use Rattle.nt_design.specs.declared.target.Target.{Target}
 use Rattle.nt_design.specs.declared.target.Target.TheVariants as target
 use Rattle.nt_semantics.proofs.Sames.{values_decide}
 use Rattle.nt_semantics.specs.Laws.{without, AgainChangesNothing}
-use Rattle.nt_semantics.specs.StateFits.{IsStateOf, slot_shape}
+use Rattle.nt_semantics.specs.StateFits.{IsStateOf, driver_shape}
 use Rattle.nt_design.specs.Puts.{after_put, leaves_put}
 use Rattle.nt_semantics.specs.Same.{is_same, is_same_object}
 use Rattle.nt_semantics.specs.State.{MachineState, value_at, count_at, net_shape, more, world_of_state}
@@ -233,7 +233,7 @@ has_shape shapes v go leaves h = of_shape (slice_get shapes v) refl h
 room_of : (d : Design) (s : MachineState) (a : ℕ) (assign : Assign) → IsDesign d → IsStateOf d s → slice_get d.assigns a ≡ Some assign → Room d s a assign
 room_of d s a assign design is here = record {
   slot =
-      let slots = same_length s.slots (map (λ (x : Assign). slot_shape d x.target) d.assigns) is.slots.leaves ∙ length-map d.assigns (λ (x : Assign). slot_shape d x.target) in
+      let slots = same_length s.slots (map (λ (x : Assign). driver_shape d x.target) d.assigns) is.slots.leaves ∙ length-map d.assigns (λ (x : Assign). driver_shape d x.target) in
       subst (λ k. a < k) (sym slots) (slice_get_within d.assigns a assign here);
   var = λ v path to.
       let shape = (design.assigns a assign here).shape in

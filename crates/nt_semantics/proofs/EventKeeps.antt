@@ -15,7 +15,7 @@ use Rattle.nt_design.specs.Expressions.{value_of}
 use Rattle.nt_design.specs.Fitting.{Gives}
 use Rattle.nt_design.specs.Meaning.{most_turns}
 use Rattle.nt_design.specs.Parts.{Value, leaves_at, only, with_part}
-use Rattle.nt_design.specs.Shapes.{target_shape, path_shape, part_shape, slot_shape as shape_of_slot, is_width, on_leaf}
+use Rattle.nt_design.specs.Shapes.{target_shape, path_shape, part_shape, slot_shape, is_width, on_leaf}
 use Rattle.nt_design.specs.Turns.{Timed}
 use Rattle.nt_design.specs.WellFormed.{IsDesign, IsDriven, IsKind, MayCall, scope_with, net_shapes, var_shapes}
 use Rattle.nt_design.specs.declared.design.Design.{Design}
@@ -32,12 +32,12 @@ use Rattle.nt_design.proofs.Puts.{whole_there}
 use Rattle.nt_design.proofs.Results.{Outside, default_is, results_fit, value_has}
 use Rattle.nt_design.proofs.Shaped.{on_shape_back, on_leaf_back, where_so_back, some_back, only_leaf}
 use Rattle.nt_semantics.proofs.StartFitting.{z_is}
-use Rattle.nt_semantics.proofs.Columns.{net_shape_there, slot_has, slot_shape_there, slot_of_net}
+use Rattle.nt_semantics.proofs.Columns.{net_shape_there, slot_has, driver_shape_there, slot_of_net}
 use Rattle.nt_semantics.proofs.ValueKeeps.{net_keeps, put_keeps}
 use Rattle.nt_design.specs.Puts.{leaves_put}
 use Rattle.nt_semantics.specs.Same.{is_same}
 use Rattle.nt_semantics.specs.State.{MachineState, value_at, net_shape, var_shape, more, fewer, world_of_state, z_value}
-use Rattle.nt_semantics.specs.StateFits.{IsStateOf, slot_shape}
+use Rattle.nt_semantics.specs.StateFits.{IsStateOf, driver_shape}
 use Rattle.nt_semantics.specs.Step.{assign_step, resolve_step, drive, take_evaluation, take_resolution, contribution, joined_wires, net_value, in_order, is_order, all_below, is_distinct, in_turns, only_if, set_net}
 use Rattle.nt_semantics.specs.Wake.{functions_of}
 
@@ -48,7 +48,7 @@ turns_give f P None y h is = absurd (none-some y is)
 turns_give f P (Some p) y h is = (p.0, h, same_Some (f p.0) y is)
 
 -- ---- states with other slots and counts
-pub columns_keep : (d : Design) (s : MachineState) (slots : List Value) (evaluations resolutions : List ℕ) → IsStateOf d s → AreValuesOf (map (λ (assign : Assign). slot_shape d assign.target) d.assigns) slots → length evaluations ≡ length s.evaluations → length resolutions ≡ length s.resolutions → IsStateOf d (record s { slots = slots; evaluations = evaluations; resolutions = resolutions })
+pub columns_keep : (d : Design) (s : MachineState) (slots : List Value) (evaluations resolutions : List ℕ) → IsStateOf d s → AreValuesOf (map (λ (assign : Assign). driver_shape d assign.target) d.assigns) slots → length evaluations ≡ length s.evaluations → length resolutions ≡ length s.resolutions → IsStateOf d (record s { slots = slots; evaluations = evaluations; resolutions = resolutions })
 columns_keep d s slots evaluations resolutions of same e r = record {
   moment = of.moment;
   vars = of.vars;
@@ -72,12 +72,12 @@ if_not true x y h = absurd (h refl)
 if_not false x y h = refl
 
 -- a slot of which a part is driven has one leaf
-part_driven : (low width : ℕ) (shape : List Leaf) → (low ≡ 0 → width ≡ 0 → ⊥) → shape_of_slot low width shape ≡ on_leaf (Some shape) (part_shape width)
+part_driven : (low width : ℕ) (shape : List Leaf) → (low ≡ 0 → width ≡ 0 → ⊥) → slot_shape low width shape ≡ on_leaf (Some shape) (part_shape width)
 part_driven low width shape h =
     if_not (low == 0 && width == 0) (Some shape) (on_leaf (Some shape) (part_shape width))
     (λ is. let parts = and_parts (low == 0) (width == 0) is in h (eqb-true low 0 parts.0) (eqb-true width 0 parts.1))
 
-contribution_has : (shape : List Leaf) (low width : ℕ) (value : Value) (leaves : List Leaf) → shape_of_slot low width shape ≡ Some leaves → IsValueOf leaves value → IsValueOf shape (contribution shape low width value)
+contribution_has : (shape : List Leaf) (low width : ℕ) (value : Value) (leaves : List Leaf) → slot_shape low width shape ≡ Some leaves → IsValueOf leaves value → IsValueOf shape (contribution shape low width value)
 contribution_has shape low (suc n) value leaves h is =
     let x = on_leaf_back (Some shape) (part_shape (suc n)) leaves (sym (part_driven low (suc n) shape (λ p q. absurd (omega (arith, q)))) ∙ h) in
     let one_leaf = some_back shape (x.0 ∷ []) x.1 in
@@ -119,7 +119,7 @@ module _ (d : Design) (design : IsDesign d) where
   var_below v shape h =
       subst (λ n. v < n) (length-map d.vars (λ (x : Var). x.shape)) (slice_get_within (var_shapes d) v shape h)
 
-  driven_keeps : (a : ℕ) (value : Value) (s : MachineState) (t : Target) (leaves : List Leaf) → IsDriven d.nets a t → target_shape (scope_with d [] None) t ≡ Some leaves → IsValueOf leaves value → get_or (map (λ (assign : Assign). slot_shape d assign.target) d.assigns) a [] ≡ slot_shape d t → IsStateOf d s → IsStateOf d (drive d a value s t)
+  driven_keeps : (a : ℕ) (value : Value) (s : MachineState) (t : Target) (leaves : List Leaf) → IsDriven d.nets a t → target_shape (scope_with d [] None) t ≡ Some leaves → IsValueOf leaves value → get_or (map (λ (assign : Assign). driver_shape d assign.target) d.assigns) a [] ≡ driver_shape d t → IsStateOf d s → IsStateOf d (drive d a value s t)
   driven_keeps a value s (target.Local i path) leaves to h is slot of = of
   driven_keeps a value s (target.Var v path) leaves to h is slot of =
       let x = on_shape_back (slice_get (var_shapes d) v) (path_shape (scope_with d [] None) path) leaves h in
@@ -133,12 +133,12 @@ module _ (d : Design) (design : IsDesign d) where
         },
       ) of
   driven_keeps a value s (target.Slot n k low width) leaves to h is slot of =
-      let x = on_shape_back (slice_get (net_shapes d) n) (shape_of_slot low width) leaves h in
+      let x = on_shape_back (slice_get (net_shapes d) n) (slot_shape low width) leaves h in
       let there : net_shape d n ≡ x.0 = shape_there n x.0 x.1 in
       let new = contribution (net_shape d n) low width value in
-      let has : IsValueOf (net_shape d n) new = contribution_has (net_shape d n) low width value leaves (ap (shape_of_slot low width) there ∙ x.2) is in
+      let has : IsValueOf (net_shape d n) new = contribution_has (net_shape d n) low width value leaves (ap (slot_shape low width) there ∙ x.2) is in
       columns_keep d s (slice_set s.slots a new) s.evaluations (if is_same (value_at s.slots a) new then s.resolutions else more s.resolutions n) of
-      (value_set (map (λ (assign : Assign). slot_shape d assign.target) d.assigns) s.slots a new of.slots (subst (λ r. IsValueOf r new) (sym slot) has)) refl (counts (is_same (value_at s.slots a) new))
+      (value_set (map (λ (assign : Assign). driver_shape d assign.target) d.assigns) s.slots a new of.slots (subst (λ r. IsValueOf r new) (sym slot) has)) refl (counts (is_same (value_at s.slots a) new))
     where
       counts : (b : Bool) → length (if b then s.resolutions else more s.resolutions n) ≡ length s.resolutions
       counts true = refl
@@ -151,7 +151,7 @@ module _ (d : Design) (design : IsDesign d) where
       let gives = value_has d design most_turns [] (world_of_state s) (outside s of) assign.right is.shape.0 is.shape.2 [] (λ i shape none. absurd (none-some shape none)) most_turns in
       let x = turns_give (λ value. drive d a value (take_evaluation a s) assign.target) (IsValueOf is.shape.0) (value_of (functions_of d) (world_of_state s) assign.right [] most_turns) t gives h in
       subst (IsStateOf d) x.2
-      (driven_keeps a x.0 (take_evaluation a s) assign.target is.shape.0 is.target is.shape.1 x.1 (slot_shape_there d a assign at)
+      (driven_keeps a x.0 (take_evaluation a s) assign.target is.shape.0 is.target is.shape.1 x.1 (driver_shape_there d a assign at)
       (columns_keep d s s.slots (fewer 1 s.evaluations a) s.resolutions of of.slots (length-set s.evaluations a _) refl))
 
   -- ---- resolutions

@@ -42,7 +42,7 @@ use Rattle.nt_semantics.specs.State.{to_do, unfolded, is_comb, start_work, start
 use Rattle.nt_semantics.specs.declared.standing.Standing.TheVariants.{Unbegun, Ready, Over}
 use Rattle.nt_semantics.specs.declared.work.Work.{Work}
 use Rattle.nt_semantics.specs.declared.work.Work.TheVariants.{Do, Repeating, Awaiting}
-use Rattle.nt_semantics.specs.StateFits.{HasWork, IsPart, IsWorkOf, ProcFits, StandingFits, Whole, Within, parts_of, slot_shape}
+use Rattle.nt_semantics.specs.StateFits.{HasWork, IsPart, IsWorkOf, ProcFits, StandingFits, Whole, Within, parts_of, driver_shape}
 
 -- ---- columns
 map_twice : {A B C : Type 0} (f : B → C) (g : A → B) (xs : List A) → map f (map g xs) ≡ map (λ x. f (g x)) xs
@@ -84,7 +84,7 @@ net_at [] n = record { leaves = refl; filled = none_filled }
 net_at (net ∷ nets) zero = net_start_is net.kind net.shape
 net_at (net ∷ nets) (suc n) = net_at nets n
 
-slot_at : (d : Design) (t : Target) → IsValueOf (slot_shape d t) (slot_start d t)
+slot_at : (d : Design) (t : Target) → IsValueOf (driver_shape d t) (slot_start d t)
 slot_at d (target.Slot n slot low width) = net_at d.nets n
 slot_at d (target.Var v path) = record { leaves = refl; filled = none_filled }
 slot_at d (target.Local i path) = record { leaves = refl; filled = none_filled }
@@ -170,7 +170,7 @@ start_fits d design = record {
   moment = omega arith;
   vars = values_of_list (λ (x : Var). x.shape) (λ (x : Var). x.start) d.vars (λ i x at. (design.vars i x at).start);
   nets = values_of_list (λ (x : Net). x.shape) (λ (x : Net). net_start x.kind x.shape) d.nets (λ i x at. net_start_is x.kind x.shape);
-  slots = values_of_list (λ (x : Assign). slot_shape d x.target) (λ (x : Assign). slot_start d x.target) d.assigns (λ i x at. slot_at d x.target);
+  slots = values_of_list (λ (x : Assign). driver_shape d x.target) (λ (x : Assign). slot_start d x.target) d.assigns (λ i x at. slot_at d x.target);
   standings = length-map d.procs (λ (x : Proc). if is_comb x.kind then Unbegun else Ready);
   work = length-map d.procs (λ (x : Proc). start_work x.kind x);
   locals = map_twice (map shape_of) (λ (x : Proc). map default_value x.locals) d.procs ∙ map_same (λ (x : Proc). map shape_of (map default_value x.locals)) (λ (x : Proc). x.locals) d.procs (λ i x at. defaults x.locals);

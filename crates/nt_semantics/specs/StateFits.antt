@@ -111,10 +111,10 @@ pub record ProcFits (s : MachineState) (p : ℕ) (proc : Proc) : Type 0 where
 
 -- ---- the state
 -- the leaves of each assignment's slot; an assignment to a variable has none
-abbrev pub slot_shape : Design → Target → List Leaf
-slot_shape d (target.Slot n slot low width) = net_shape d n
-slot_shape d (target.Var v path) = []
-slot_shape d (target.Local i path) = []
+abbrev pub driver_shape : Design → Target → List Leaf
+driver_shape d (target.Slot n slot low width) = net_shape d n
+driver_shape d (target.Var v path) = []
+driver_shape d (target.Local i path) = []
 
 -- a state of this design: a moment up to the greatest time limit (own), values of the right shapes, an item for each in each
 -- column, and procedures and updates that fit
@@ -122,7 +122,7 @@ pub record IsStateOf (d : Design) (s : MachineState) : Type 0 where
   pub moment : s.moment ≤ 2 ^ 48
   pub vars : AreValuesOf (var_shapes d) s.vars
   pub nets : AreValuesOf (net_shapes d) s.nets
-  pub slots : AreValuesOf (map (λ (assign : Assign). slot_shape d assign.target) d.assigns) s.slots
+  pub slots : AreValuesOf (map (λ (assign : Assign). driver_shape d assign.target) d.assigns) s.slots
   pub standings : length s.standings ≡ length d.procs
   pub work : length s.work ≡ length d.procs
   pub locals : map (map shape_of) s.locals ≡ map (λ (p : Proc). p.locals) d.procs

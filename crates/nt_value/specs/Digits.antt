@@ -3,6 +3,7 @@ use Rattle.std.specs.Prelude.{◌≡◌, ℕ, ◌+◌, ◌*◌, ◌==◌, ◌≤
 use Rattle.nt_value.specs.declared.digit.Digit.{Digit}
 use Rattle.nt_value.specs.declared.digit.Digit.TheVariants.{Zero, One, X, Z}
 use Rattle.nt_value.specs.declared.leaf.Leaf.{Leaf}
+use Rattle.nt_value.specs.declared.leaf.TheConstants.{WIDEST}
 
 -- a leaf of a value: what it is, and its digits
 pub record LeafValue : Type 0 where
@@ -11,7 +12,7 @@ pub record LeafValue : Type 0 where
 
 -- a width of 1 to 64, this project's limit
 abbrev pub IsLeaf : Leaf → Type 0
-IsLeaf leaf = (1 ≤ leaf.width) × (leaf.width ≤ 64)
+IsLeaf leaf = (1 ≤ leaf.width) × (leaf.width ≤ WIDEST)
 
 -- 0 and 1 are known, x and z are not (IEEE 1800-2017, 6.3.1)
 abbrev pub is_known : Digit → Bool

@@ -4,6 +4,7 @@ use Rattle.nt_value.specs.Digits.{LeafValue, IsFilled}
 use Rattle.nt_value.specs.declared.digit.Digit.{Digit}
 use Rattle.nt_value.specs.declared.digit.Digit.TheVariants.{Zero, One, X}
 use Rattle.nt_value.specs.declared.leaf.Leaf.{Leaf}
+use Rattle.nt_value.specs.declared.value.TheConstants.{MOST_LEAVES}
 
 -- the lowest digits of a number in base 2, the least significant first
 abbrev pub binary : ℕ → ℕ → List Digit
@@ -28,7 +29,7 @@ shape_of value = map (λ v. v.leaf) value
 
 -- a value: at most 64 leaves, this project's limit, each with its digits
 pub record IsValue (leaves : List LeafValue) : Type 0 where
-  pub within : length leaves ≤ 64
+  pub within : length leaves ≤ MOST_LEAVES
   pub filled : All IsFilled leaves
 
 -- a value of a type: the type's leaves, each with its digits

@@ -1,6 +1,9 @@
 // What a leaf of a type is.
 ghost use Rattle.std.specs.Prelude.{◌≡◌, ◌↔◌, IsTrue};
 
+/// How many digits a leaf may have (this project's limit).
+pub const WIDEST: u8 = 64;
+
 /// A leaf of a type: its width of 1 to 64 digits, whether it is signed, and whether it has four
 /// states.
 #[derive(Clone, Copy, Debug, PartialEq, Eq)]
@@ -31,6 +34,6 @@ impl Leaf {
     pub fn is_valid(self) -> bool
         ensures { IsTrue result ↔ IsLeaf self }
     {
-        1 <= self.width && self.width <= 64
+        1 <= self.width && self.width <= WIDEST
     }
 }

@@ -27,7 +27,7 @@ pub use laws::{
     addition_is_modular, division_restores, multiplication_is_modular, parts_of_concat,
     resize_returns, subtraction_is_modular, xnor_is_not_xor,
 };
-pub use leaf::Leaf;
+pub use leaf::{Leaf, WIDEST};
 pub use literal::Literal;
 pub use logic::{merge, truth, wire_pair};
 pub use operator::{Binary, Unary};
@@ -36,7 +36,7 @@ pub use printing::{print, print_leaf};
 pub use sizes::{concat, part, put_part, resize};
 pub use text::{Name, Text};
 pub use unit::{Base, Unit};
-pub use value::{Shape, Value, copy, default_of, same};
+pub use value::{MOST_LEAVES, Shape, Value, copy, default_of, same};
 
 #[cfg(test)]
 mod operator_tests;

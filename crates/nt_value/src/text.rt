@@ -110,6 +110,19 @@ impl Text {
         &self.bytes
     }
 
+    /// An equal text.
+    ///
+    /// # Errors
+    ///
+    /// `AllocError` alone.
+    pub fn copy(&self, alloc: Global) -> Result<Text, AllocError>
+        ensures { IfOk result (λ text. text ≡ self.now) }
+    {
+        Ok(Text {
+            bytes: Vec::from_slice(alloc, &self.bytes)?,
+        })
+    }
+
     /// Adds one byte. Without memory the text stays as it is.
     pub fn push(&mut self, byte: u8) -> Result<(), AllocError>
         ensures ok { OnOk result (self.new ≡ self.old ++ byte ∷ []) }

@@ -7,6 +7,9 @@ use crate::{Bits, Leaf};
 use std::alloc::{AllocError, Global};
 use std::marker::Model;
 
+/// How many leaves a type may have (this project's limit).
+pub const MOST_LEAVES: usize = 64;
+
 /// The leaves of a type in order, at most 64.
 #[derive(Debug, Drop)]
 pub struct Shape {

@@ -6,7 +6,7 @@ use Rattle.nt_const.proofs.Whole.{sizes_err}
 use Rattle.nt_const.proofs.evaluate.width_and_sign_by.Goals as goal
 
 pub returns-then-never-clause-answer : goal.returns-then-never-clause-answer
-returns-then-never-clause-answer g c = rw (c.refused.ensures, c.place.ensures) (refuse_whole _ (hides_true (g.L.Lookup.sees c.args.known.now) _ _ c.if-never.true c.in_ok-never.ensures))
+returns-then-never-clause-answer g c = rw (c.refused.ensures, c.at.ensures) (refuse_whole _ (hides_true (g.L.Lookup.sees c.args.known.now) _ _ c.if-never.true c.in_ok-never.ensures))
 
 pub returns-in_err-a-clause-answer : goal.returns-in_err-a-clause-answer
 returns-in_err-a-clause-answer g c =

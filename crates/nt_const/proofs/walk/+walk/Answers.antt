@@ -27,7 +27,7 @@ counted-returns-then-counts g t c =
 pub counted-returns : goal.counted-returns
 counted-returns g t c =
     let k = g.L.Lookup.sees c.args.known.now in
-    rw (c.refused.ensures, c.place.ensures)
+    rw (c.refused.ensures, c.at.ensures)
     (unfit {n = count} (subst (λ v. Own k (out-Expr c.args.expr.now) v) (sym c.own-value.ensures) (own_of k _ c.in_ok-a.a c.in_ok-a.ensures)) (λ g. absurd (let e : _ = c.if-counts.ensures.1 g in cc)))
 
 pub measured-returns-in_err-a : goal.measured-returns-in_err-a
@@ -49,7 +49,7 @@ measured-returns-then-is_known g t c =
 pub measured-returns : goal.measured-returns
 measured-returns g t c =
     let k = g.L.Lookup.sees c.args.known.now in
-    rw (c.refused.ensures, c.place.ensures)
+    rw (c.refused.ensures, c.at.ensures)
     (unfit {n = known} (subst (λ v. Own k (out-Expr c.args.expr.now) v) (sym c.own-value.ensures) (own_of k _ c.in_ok-a.a c.in_ok-a.ensures)) (λ g. absurd (let e : false ≡ true = c.if-is_known.ensures.value ∙ g in cc)))
 
 pub draft-returns-in_err-a-in-Item : goal.draft-returns-in_err-a-in-Item
