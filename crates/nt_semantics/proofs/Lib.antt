@@ -1,8 +1,10 @@
 pub mod Acting
 pub mod Again
 pub mod Beginning
+pub mod Begun
 pub mod Columns
 pub mod Combs
+pub mod Counting
 pub mod Delays
 pub mod Equations
 pub mod EventKeeps
@@ -11,8 +13,10 @@ pub mod Filling
 pub mod Followed
 pub mod GoingHere
 pub mod Growing
+pub mod Holding
 pub mod InActive
 pub mod Keeping
+pub mod Lasting
 pub mod Listing
 pub mod Marks
 pub mod MovingHere
