@@ -1,21 +1,23 @@
 -- How often a process stands on a list.
-use Rattle.std.proofs.Common.{◌≡◌, ℕ, zero, suc, ◌+◌, ◌<◌, ◌≤◌, ◌==◌, nat_lt, Bool, true, false, not, ◌||◌, if◌then◌else◌, List, [], ◌∷◌, ◌++◌, length, map, filter, refl, sym, ◌∙◌, ap, arith}
+use Rattle.std.proofs.Common.{◌≡◌, inl, inr, ℕ, zero, suc, ◌+◌, ◌<◌, ◌≤◌, ◌==◌, nat_lt, Bool, true, false, not, ◌||◌, if◌then◌else◌, List, [], ◌∷◌, ◌++◌, length, map, filter, refl, sym, ◌∙◌, ap, arith}
 use Rattle.std.specs.List.{range_with_len}
-use Rattle.std.proofs.lemmas.Bool.{false≢true, eq-eqb, eqb-true, ltb-true, ltb-false}
+use Rattle.std.proofs.lemmas.Bool.{false≢true, eq-eqb, eqb-true, lt-ltb}
 use Rattle.nt_design.specs.declared.design.Design.{Design}
 use Rattle.nt_semantics.proofs.Listing.{same_is}
+use Rattle.nt_semantics.proofs.Waking.{lt_or_le}
 use Rattle.nt_semantics.specs.Groups.{processes, is_among, is_same_process}
-use Rattle.nt_semantics.specs.ReadyLists.{one_if, times}
+use Rattle.nt_semantics.specs.ReadyLists.{times}
 use Rattle.nt_semantics.specs.Rounds.{with_new}
 use Rattle.nt_semantics.specs.declared.process.Process.{Process}
 use Rattle.nt_semantics.specs.declared.process.Process.TheVariants.{Procedure, Assignment}
 
 pub times_append : {A : Type 0} (f : A → Bool) (xs ys : List A) → times f (xs ++ ys) ≡ times f xs + times f ys
-times_append f [] ys = refl
-times_append f (x ∷ xs) ys = let rest = times_append f xs ys in omega (arith, rest)
-
-pub on_list : Process → List Process → ℕ
-on_list y xs = times (is_same_process y) xs
+times_append f [] ys = omega arith
+times_append f (x ∷ xs) ys = of_test (times_append f xs ys) (f x)
+  where
+    of_test : times f (xs ++ ys) ≡ times f xs + times f ys → (b : Bool) → (if b then 1 + times f (xs ++ ys) else times f (xs ++ ys)) ≡ (if b then 1 + times f xs else times f xs) + times f ys
+    of_test rest true = omega (arith, rest)
+    of_test rest false = rest
 
 pub same_self : (x : Process) → is_same_process x x ≡ true
 same_self (Procedure p) = eq-eqb p p refl
@@ -26,38 +28,37 @@ pub among_times : (y : Process) (xs : List Process) → is_among xs y ≡ nat_lt
 among_times y [] = refl
 among_times y (x ∷ xs) = of_same (among_times y xs) (is_same_process y x)
   where
-    of_same : is_among xs y ≡ nat_lt 0 (times (is_same_process y) xs) → (b : Bool) → (b || is_among xs y) ≡ nat_lt 0 (one_if b + times (is_same_process y) xs)
-    of_same rest true = refl
+    of_same : is_among xs y ≡ nat_lt 0 (times (is_same_process y) xs) → (b : Bool) → (b || is_among xs y) ≡ nat_lt 0 (if b then 1 + times (is_same_process y) xs else times (is_same_process y) xs)
+    of_same rest true = sym (lt-ltb 0 (1 + times (is_same_process y) xs) (omega arith))
     of_same rest false = rest
 
-only : Bool → ℕ → ℕ
-only true n = n
-only false n = 0
+abbrev Filtered : (Process → Bool) → Process → List Process → Type 0
+Filtered g y xs = times (is_same_process y) (filter g xs) ≡ (if g y then times (is_same_process y) xs else 0)
 
-pub times_filter : (g : Process → Bool) (y : Process) (xs : List Process) → times (is_same_process y) (filter g xs) ≡ (if g y then times (is_same_process y) xs else 0)
+pub times_filter : (g : Process → Bool) (y : Process) (xs : List Process) → Filtered g y xs
 times_filter g y [] = of_kept (g y)
   where
-    of_kept : (b : Bool) → 0 ≡ (if b then 0 else 0)
+    of_kept : (b : Bool) → times (is_same_process y) [] ≡ (if b then times (is_same_process y) [] else 0)
     of_kept true = refl
     of_kept false = refl
-times_filter g y (x ∷ xs) = of_same (is_same_process y x) refl
+times_filter g y (x ∷ xs) = of_same (times_filter g y xs) (is_same_process y x) refl
   where
-    rest : times (is_same_process y) (filter g xs) ≡ (if g y then times (is_same_process y) xs else 0)
-    rest = times_filter g y xs
-
     -- where it is this item, it is kept as the process is
-    here : (b : Bool) → g y ≡ b → is_same_process y x ≡ true → times (is_same_process y) (if b then x ∷ filter g xs else filter g xs) ≡ (if b then one_if (is_same_process y x) + times (is_same_process y) xs else 0)
-    here true is same = ap (λ n. one_if (is_same_process y x) + n) (rest ∙ ap (λ b. if b then times (is_same_process y) xs else 0) is)
-    here false is same = rest ∙ ap (λ b. if b then times (is_same_process y) xs else 0) is
+    here : Filtered g y xs → (b : Bool) → g y ≡ b → is_same_process y x ≡ true → times (is_same_process y) (if b then x ∷ filter g xs else filter g xs) ≡ (if b then 1 + times (is_same_process y) xs else 0)
+    here rest true is same =
+        ap (λ c. if c then 1 + times (is_same_process y) (filter g xs) else times (is_same_process y) (filter g xs)) same ∙ ap (λ n. 1 + n) (rest ∙ ap (λ b. if b then times (is_same_process y) xs else 0) is)
+    here rest false is same = rest ∙ ap (λ b. if b then times (is_same_process y) xs else 0) is
 
-    other : (b : Bool) → is_same_process y x ≡ false → times (is_same_process y) (if b then x ∷ filter g xs else filter g xs) ≡ (if g y then one_if (is_same_process y x) + times (is_same_process y) xs else 0)
-    other true no = ap (λ b. one_if b + times (is_same_process y) (filter g xs)) no ∙ rest ∙ ap (λ b. if g y then one_if b + times (is_same_process y) xs else 0) (sym no)
-    other false no = rest ∙ ap (λ b. if g y then one_if b + times (is_same_process y) xs else 0) (sym no)
+    other : Filtered g y xs → (b : Bool) → is_same_process y x ≡ false → times (is_same_process y) (if b then x ∷ filter g xs else filter g xs) ≡ (if g y then times (is_same_process y) xs else 0)
+    other rest true isnt =
+        ap (λ c. if c then 1 + times (is_same_process y) (filter g xs) else times (is_same_process y) (filter g xs)) isnt ∙ rest
+    other rest false isnt = rest
 
-    of_same : (b : Bool) → is_same_process y x ≡ b → times (is_same_process y) (if g x then x ∷ filter g xs else filter g xs) ≡ (if g y then one_if (is_same_process y x) + times (is_same_process y) xs else 0)
-    of_same true same =
-        ap (λ z. times (is_same_process y) (if g z then x ∷ filter g xs else filter g xs)) (sym (same_is y x same)) ∙ here (g y) refl same
-    of_same false no = other (g x) no
+    of_same : Filtered g y xs → (b : Bool) → is_same_process y x ≡ b → times (is_same_process y) (if g x then x ∷ filter g xs else filter g xs) ≡ (if g y then (if is_same_process y x then 1 + times (is_same_process y) xs else times (is_same_process y) xs) else 0)
+    of_same rest true same =
+        ap (λ z. times (is_same_process y) (if g z then x ∷ filter g xs else filter g xs)) (sym (same_is y x same)) ∙ here rest (g y) refl same ∙ ap (λ c. if g y then (if c then 1 + times (is_same_process y) xs else times (is_same_process y) xs) else 0) (sym same)
+    of_same rest false isnt =
+        other rest (g x) isnt ∙ ap (λ c. if g y then (if c then 1 + times (is_same_process y) xs else times (is_same_process y) xs) else 0) (sym isnt)
 
 -- of those that are new, what wasn't there stands as often as they say
 pub times_new : (y : Process) (xs ys : List Process) → times (is_same_process y) (with_new xs ys) ≡ times (is_same_process y) xs + (if is_among xs y then 0 else times (is_same_process y) ys)
@@ -71,19 +72,19 @@ times_new y xs ys =
 -- ---- lists of numbers
 pub times_procs : (p : ℕ) (ps : List ℕ) → times (is_same_process (Procedure p)) (map (λ q. Procedure q) ps) ≡ times (λ q. p == q) ps
 times_procs p [] = refl
-times_procs p (q ∷ ps) = ap (λ n. one_if (p == q) + n) (times_procs p ps)
+times_procs p (q ∷ ps) = ap (λ n. if p == q then 1 + n else n) (times_procs p ps)
 
-pub times_assigns : (a : ℕ) (as' : List ℕ) → times (is_same_process (Assignment a)) (map (λ b. Assignment b) as') ≡ times (λ b. a == b) as'
+pub times_assigns : (a : ℕ) (bs : List ℕ) → times (is_same_process (Assignment a)) (map (λ b. Assignment b) bs) ≡ times (λ b. a == b) bs
 times_assigns a [] = refl
-times_assigns a (b ∷ as') = ap (λ n. one_if (a == b) + n) (times_assigns a as')
+times_assigns a (b ∷ bs) = ap (λ n. if a == b then 1 + n else n) (times_assigns a bs)
 
 pub no_assign : (a : ℕ) (ps : List ℕ) → times (is_same_process (Assignment a)) (map (λ q. Procedure q) ps) ≡ 0
 no_assign a [] = refl
 no_assign a (q ∷ ps) = no_assign a ps
 
-pub no_proc : (p : ℕ) (as' : List ℕ) → times (is_same_process (Procedure p)) (map (λ b. Assignment b) as') ≡ 0
+pub no_proc : (p : ℕ) (bs : List ℕ) → times (is_same_process (Procedure p)) (map (λ b. Assignment b) bs) ≡ 0
 no_proc p [] = refl
-no_proc p (b ∷ as') = no_proc p as'
+no_proc p (b ∷ bs) = no_proc p bs
 
 other_number : (p q : ℕ) → (p ≡ q → ⊥) → (p == q) ≡ false
 other_number p q other = of_test (p == q) refl
@@ -95,20 +96,25 @@ other_number p q other = of_test (p == q) refl
 past_range : (p a n : ℕ) → p < a → times (λ q. p == q) (range_with_len a n) ≡ 0
 past_range p a zero low = refl
 past_range p a (suc n) low =
-    ap (λ b. one_if b + times (λ q. p == q) (range_with_len (a + 1) n)) (other_number p a (λ e. omega (arith, low, e))) ∙ past_range p (a + 1) n (omega (arith, low))
+    ap (λ (b : Bool). if b then 1 + times (λ q. p == q) (range_with_len (a + 1) n) else times (λ q. p == q) (range_with_len (a + 1) n)) (other_number p a (λ e. omega (arith, low, e))) ∙ past_range p (a + 1) n (omega (arith, low))
 
 in_range : (p a n : ℕ) → a ≤ p → p < a + n → times (λ q. p == q) (range_with_len a n) ≡ 1
 in_range p a zero low high = absurd (omega (arith, low, high))
-in_range p a (suc n) low high = of_first (p == a) refl
+in_range p a (suc n) low high = of_first (λ above. in_range p (a + 1) n above (omega (arith, high))) (p == a) refl
   where
-    of_first : (b : Bool) → (p == a) ≡ b → one_if (p == a) + times (λ q. p == q) (range_with_len (a + 1) n) ≡ 1
-    of_first true is =
-        ap (λ b. one_if b + times (λ q. p == q) (range_with_len (a + 1) n)) is ∙ ap (λ n. 1 + n) (past_range p (a + 1) n (omega (arith, eqb-true p a is)))
-    of_first false is =
-        ap (λ b. one_if b + times (λ q. p == q) (range_with_len (a + 1) n)) is ∙ in_range p (a + 1) n (above (λ e. false≢true (sym is ∙ eq-eqb p a e))) (omega (arith, high))
-      where
-        above : (p ≡ a → ⊥) → a + 1 ≤ p
-        above other = omega (arith, low, other)
+    above : (p ≡ a → ⊥) → a + 1 ≤ p
+    above other = omega (arith, low, other)
+
+    of_first : (a + 1 ≤ p → times (λ q. p == q) (range_with_len (a + 1) n) ≡ 1) → (b : Bool) → (p == a) ≡ b → (if p == a then 1 + times (λ q. p == q) (range_with_len (a + 1) n) else times (λ q. p == q) (range_with_len (a + 1) n)) ≡ 1
+    of_first rest true is =
+        ap (λ (b : Bool). if b then 1 + times (λ q. p == q) (range_with_len (a + 1) n) else times (λ q. p == q) (range_with_len (a + 1) n)) is ∙ ap (λ n. 1 + n) (past_range p (a + 1) n (omega (arith, eqb-true p a is)))
+    of_first rest false is =
+        ap (λ (b : Bool). if b then 1 + times (λ q. p == q) (range_with_len (a + 1) n) else times (λ q. p == q) (range_with_len (a + 1) n)) is ∙ rest (above (λ e. false≢true (sym is ∙ eq-eqb p a e)))
+
+behind_range : (p a n : ℕ) → a + n ≤ p → times (λ q. p == q) (range_with_len a n) ≡ 0
+behind_range p a zero past = refl
+behind_range p a (suc n) past =
+    ap (λ (b : Bool). if b then 1 + times (λ q. p == q) (range_with_len (a + 1) n) else times (λ q. p == q) (range_with_len (a + 1) n)) (other_number p a (λ e. omega (arith, past, e))) ∙ behind_range p (a + 1) n (omega (arith, past))
 
 -- each process of a design stands once among all
 pub proc_once : (d : Design) (p : ℕ) → p < length d.procs → times (is_same_process (Procedure p)) (processes d) ≡ 1
@@ -124,32 +130,25 @@ assign_once d a low =
     omega (arith, parts, second, no_assign a (range_with_len 0 (length d.procs)))
 
 -- where a test chooses numbers, each stands at most once
-pub chosen_once : (f : ℕ → Bool) (p a n : ℕ) → times (λ q. p == q) (filter f (range_with_len a n)) ≤ 1
-chosen_once f p a zero = omega arith
-chosen_once f p a (suc n) = of_first (f a)
+fewer_kept : (f : ℕ → Bool) (p : ℕ) (xs : List ℕ) → times (λ q. p == q) (filter f xs) ≤ times (λ q. p == q) xs
+fewer_kept f p [] = omega arith
+fewer_kept f p (x ∷ xs) = of_kept (fewer_kept f p xs) (f x) (p == x) refl
   where
-    rest : times (λ q. p == q) (filter f (range_with_len (a + 1) n)) ≤ 1
-    rest = chosen_once f p (a + 1) n
+    of_kept : times (λ q. p == q) (filter f xs) ≤ times (λ q. p == q) xs → (keeps same : Bool) → (p == x) ≡ same → times (λ q. p == q) (if keeps then x ∷ filter f xs else filter f xs) ≤ (if p == x then 1 + times (λ q. p == q) xs else times (λ q. p == q) xs)
+    of_kept more true true is = rw is (omega (arith, more))
+    of_kept more true false is = rw is more
+    of_kept more false true is = rw is (omega (arith, more))
+    of_kept more false false is = rw is more
 
-    fewer_kept : (xs : List ℕ) → times (λ q. p == q) (filter f xs) ≤ times (λ q. p == q) xs
-    fewer_kept [] = omega arith
-    fewer_kept (x ∷ xs) = of_kept (f x)
-      where
-        more : times (λ q. p == q) (filter f xs) ≤ times (λ q. p == q) xs
-        more = fewer_kept xs
-
-        of_kept : (b : Bool) → times (λ q. p == q) (if b then x ∷ filter f xs else filter f xs) ≤ one_if (p == x) + times (λ q. p == q) xs
-        of_kept true = omega (arith, more)
-        of_kept false = omega (arith, more)
-
-    of_same : (b : Bool) → (p == a) ≡ b → one_if (p == a) + times (λ q. p == q) (filter f (range_with_len (a + 1) n)) ≤ 1
-    of_same true is =
-        let none = past_range p (a + 1) n (omega (arith, eqb-true p a is)) in
-        let few = fewer_kept (range_with_len (a + 1) n) in
-        let one : one_if (p == a) ≡ 1 = ap one_if is in
-        omega (arith, none, few, one)
-    of_same false is = let no : one_if (p == a) ≡ 0 = ap one_if is in omega (arith, rest, no)
-
-    of_first : (b : Bool) → times (λ q. p == q) (if b then a ∷ filter f (range_with_len (a + 1) n) else filter f (range_with_len (a + 1) n)) ≤ 1
-    of_first true = of_same (p == a) refl
-    of_first false = rest
+pub chosen_once : (f : ℕ → Bool) (p a n : ℕ) → times (λ q. p == q) (filter f (range_with_len a n)) ≤ 1
+chosen_once f p a n =
+    let fewer = fewer_kept f p (range_with_len a n) in omega (arith, fewer, at_most)
+  where
+    at_most : times (λ q. p == q) (range_with_len a n) ≤ 1
+    at_most = elim (lt_or_le p a) [
+      | inl before ↦ omega (arith, past_range p a n before)
+      | inr from ↦ elim (lt_or_le p (a + n)) [
+        | inl below ↦ omega (arith, in_range p a n from below)
+        | inr past ↦ omega (arith, behind_range p a n past)
+      ]
+    ]

@@ -1,5 +1,5 @@
 -- A ready list goes on holding just the processes that have an event in Active, each once.
-use Rattle.std.proofs.Common.{◌≡◌, ◌⊎◌, inl, inr, ⊤, ℕ, zero, suc, ◌+◌, ◌-◌, ◌<◌, ◌≤◌, ◌==◌, nat_lt, Bool, true, false, not, ◌&&◌, ◌||◌, if◌then◌else◌, List, [], ◌∷◌, length, filter, get_or, replicate, Option, Some, None, option_and_then, refl, sym, ◌∙◌, ap, subst, arith, get_or-set_other}
+use Rattle.std.proofs.Common.{◌≡◌, ◌⊎◌, inl, inr, ℕ, zero, suc, ◌+◌, ◌-◌, ◌<◌, ◌≤◌, ◌==◌, nat_lt, Bool, true, false, not, ◌&&◌, ◌||◌, if◌then◌else◌, List, [], ◌∷◌, length, filter, get_or, replicate, Option, Some, None, option_and_then, refl, sym, ◌∙◌, ap, subst, arith, get_or-set_other}
 use Rattle.std.proofs.lemmas.Bool.{false≢true, eq-eqb, eqb-true, ltb-true, lt-ltb}
 use Rattle.std.proofs.lemmas.List.{get_or_past}
 use Rattle.std.proofs.lemmas.Option.{same_Some}
@@ -89,10 +89,10 @@ count_there counts a h = elim (lt_or_le a (length counts)) [
 
 -- ---- a process and an event of another, or of none
 -- s is the state before, and from the one from which it is told what was woken
-record Follows (d : Design) (b : Bool) (s from t : MachineState) (y : Process) : Type 0 where
-  stays : is_held b s y ≡ true → is_held b t y ≡ true
-  woke : is_held b s y ≡ false → is_woken from t y ≡ is_held b t y
-  there : is_woken from t y ≡ true → times (is_same_process y) (processes d) ≡ 1
+pub record Follows (d : Design) (b : Bool) (s from t : MachineState) (y : Process) : Type 0 where
+  pub stays : is_held b s y ≡ true → is_held b t y ≡ true
+  pub woke : is_held b s y ≡ false → is_woken from t y ≡ is_held b t y
+  pub there : is_woken from t y ≡ true → times (is_same_process y) (processes d) ≡ 1
 
 both_first : (a b : Bool) → (a && b) ≡ true → a ≡ true
 both_first true b h = refl
@@ -115,8 +115,11 @@ assign_follows d b s from t a same fits lasts = record {
   there = λ h. assign_once d a (omega (arith, count_there t.evaluations a (lt-ltb 0 (count_at t.evaluations a) (omega (arith, ltb-true (count_at from.evaluations a) (count_at t.evaluations a) h))), fits.evaluations));
 }
 
+none_before : (n : ℕ) → 0 + n ≡ n
+none_before n = omega arith
+
 -- what such an event leaves of the list: what is new is behind it
-held_next : (d : Design) (b : Bool) (s from t : MachineState) (y : Process) (xs : List Process) → Follows d b s from t y → times (is_same_process y) xs ≡ one_if (is_held b s y) → times (is_same_process y) (with_new xs (woken d from t)) ≡ one_if (is_held b t y)
+pub held_next : (d : Design) (b : Bool) (s from t : MachineState) (y : Process) (xs : List Process) → Follows d b s from t y → times (is_same_process y) xs ≡ one_if (is_held b s y) → times (is_same_process y) (with_new xs (woken d from t)) ≡ one_if (is_held b t y)
 held_next d b s from t y xs follows before =
     times_new y xs (woken d from t) ∙ of_held (is_held b s y) refl
   where
@@ -134,4 +137,219 @@ held_next d b s from t y xs follows before =
     of_held true is =
         rw (before, among_is, is) (ap one_if (sym (follows.stays is)))
     of_held false is =
-        rw (before, among_is, is) (news ∙ ap one_if (follows.woke is))
+        rw (before, among_is, is) (none_before (times (is_same_process y) (woken d from t)) ∙ news ∙ ap one_if (follows.woke is))
+
+-- ---- an entry of phase Evaluate
+-- what is right of a state and a list within a round: the list holds what it has to; where `always_comb` are on it they may
+-- begin, and else none has; and the state is one of the design
+pub record Kept (d : Design) (b : Bool) (s : MachineState) (xs : List Process) : Type 0 where
+  pub holds : Holds b s xs
+  pub begins : b ≡ true → may_begin s ≡ true
+  pub waiting : b ≡ false → AllUnbegun s (combs d)
+  pub fits : IsStateOf d s
+
+abbrev one_of : Bool → Bool → ℕ
+one_of keeps same = if keeps then (if same then 1 else 0) else 0
+
+one_of_none : (keeps : Bool) → one_of keeps false ≡ 0
+one_of_none true = refl
+one_of_none false = refl
+
+one_of_one : (keeps : Bool) → one_of keeps true ≡ one_if keeps
+one_of_one true = refl
+one_of_one false = refl
+
+-- the process itself: woken by its own event, or on the list again where it is still ready
+record Own (d : Design) (b : Bool) (s t : MachineState) (x : Process) : Type 0 where
+  woke : is_woken (without_evaluations s x (entry_of d s x).count) t x ≡ true → (is_held b t x ≡ true) × (times (is_same_process x) (processes d) ≡ 1)
+  ready : is_held b t x ≡ is_ready t x
+
+module _ (d : Design) (design : IsDesign d) (b : Bool) (s t : MachineState) (x : Process) (xs : List Process) (enters : enter d s (entry_of d s x) ≡ Some t) (kept : Kept d b s (x ∷ xs)) where
+  run : steps d (copies (entry_of d s x)) s ≡ Some t
+  run = entered (is_entry d (entry_of d s x)) (steps d (copies (entry_of d s x)) s) t enters
+
+  fits_then : IsStateOf d t
+  fits_then = steps_keep d (copies (entry_of d s x)) s t design kept.fits run
+
+  abbrev from : MachineState
+  from = without_evaluations s x (entry_of d s x).count
+
+  follows : (y : Process) → is_same_process y x ≡ false → Follows d b s from t y
+  follows y other = of_process x y other run
+    where
+      of_process : (x y : Process) → is_same_process y x ≡ false → steps d (copies (entry_of d s x)) s ≡ Some t → Follows d b s (without_evaluations s x (entry_of d s x).count) t y
+      of_process (Procedure q) (Procedure p) other r =
+          proc_follows d b s s t p refl kept.fits (steps_stand d (Stmt q) 1 s t p (λ e. false≢true (sym other ∙ eq-eqb p q (sym e))) r)
+      of_process (Assignment a) (Procedure p) other r =
+          proc_follows d b s (without_evaluations s (Assignment a) (entry_of d s (Assignment a)).count) t p refl kept.fits (steps_stand d (AssignEvent a) (entry_of d s (Assignment a)).count s t p tt r)
+      of_process (Procedure q) (Assignment c) other r =
+          assign_follows d b s s t c refl fits_then (evaluations_last d (Stmt q) 1 s t c tt r)
+      of_process (Assignment a) (Assignment c) other r =
+          let apart : c ≡ a → ⊥ = λ e. false≢true (sym other ∙ eq-eqb c a e) in
+          assign_follows d b s (without_evaluations s (Assignment a) (entry_of d s (Assignment a)).count) t c (get_or-set_other s.evaluations a c _ 0 apart) fits_then (evaluations_last d (AssignEvent a) (entry_of d s (Assignment a)).count s t c apart r)
+
+  -- the process itself stands nowhere behind its place
+  at_head : (1 + times (is_same_process x) xs) ≡ one_if (is_held b s x)
+  at_head =
+      ap (λ c. if c then 1 + times (is_same_process x) xs else times (is_same_process x) xs) (sym (same_self x)) ∙ kept.holds x
+
+  at_most : (c : Bool) → one_if c ≤ 1
+  at_most true = omega arith
+  at_most false = omega arith
+
+  isnt_behind : times (is_same_process x) xs ≡ 0
+  isnt_behind = omega (arith, at_head, at_most (is_held b s x))
+
+  was_held : is_held b s x ≡ true
+  was_held = of_held (is_held b s x) refl
+    where
+      of_held : (c : Bool) → is_held b s x ≡ c → is_held b s x ≡ true
+      of_held true is = is
+      of_held false is = absurd (omega (arith, at_head, ap one_if is))
+
+  abbrev first : List Process
+  first = with_new xs (woken d from t)
+
+  abbrev last : List Process
+  last = filter (is_ready t) (x ∷ [])
+
+  own : Own d b s t x
+  own = of_process x was_held run
+    where
+      listed_awake : (a : Standing) → stands_listed b a ≡ true → is_waiting a ≡ false
+      listed_awake (Waits k) h = absurd (false≢true h)
+      listed_awake Unbegun h = refl
+      listed_awake Ready h = refl
+      listed_awake Inactive h = refl
+      listed_awake (Later at) h = refl
+      listed_awake Over h = refl
+
+      begun_ready : (a : Standing) → (a ≡ Unbegun → ⊥) → stands_listed b a ≡ stands_ready a
+      begun_ready (Waits k) h = refl
+      begun_ready Unbegun h = absurd (h refl)
+      begun_ready Ready h = refl
+      begun_ready Inactive h = refl
+      begun_ready (Later at) h = refl
+      begun_ready Over h = refl
+
+      one_step : (p : ℕ) (o : Option MachineState) → step d s (Stmt p) ≡ o → option_and_then (steps d []) o ≡ Some t → step d s (Stmt p) ≡ Some t
+      one_step p None is g = absurd (none_some t g)
+      one_step p (Some v) is g = is ∙ g
+
+      of_process : (x : Process) → is_held b s x ≡ true → steps d (copies (entry_of d s x)) s ≡ Some t → Own d b s t x
+      of_process (Procedure p) held r = record {
+        woke = λ w. absurd (false≢true (sym (ap (λ c. c && stands_ready (standing_at t p)) (listed_awake (standing_at s p) held)) ∙ w));
+        ready = begun_ready (standing_at t p) (step_begun d p s t (one_step p (step d s (Stmt p)) refl r));
+      }
+      of_process (Assignment a) held r = record {
+        woke = λ w. let some = lt-ltb 0 (count_at t.evaluations a) (omega (arith, ltb-true (count_at (without_evaluations s (Assignment a) (entry_of d s (Assignment a)).count).evaluations a) (count_at t.evaluations a) w)) in (some, assign_once d a (omega (arith, count_there t.evaluations a some, fits_then.evaluations)));
+        ready = refl;
+      }
+
+  last_is : (y : Process) → times (is_same_process y) last ≡ one_of (is_ready t y) (is_same_process y x)
+  last_is y = times_filter (is_ready t) y (x ∷ [])
+
+  other_next : (y : Process) → is_same_process y x ≡ false → times (is_same_process y) (next_ready d s t x xs) ≡ one_if (is_held b t y)
+  other_next y other =
+      times_new y first last ∙ added (is_among first y) ∙ held_next d b s from t y xs (follows y other) before
+    where
+      before : times (is_same_process y) xs ≡ one_if (is_held b s y)
+      before =
+          ap (λ c. if c then 1 + times (is_same_process y) xs else times (is_same_process y) xs) (sym other) ∙ kept.holds y
+
+      none_last : times (is_same_process y) last ≡ 0
+      none_last =
+          last_is y ∙ ap (one_of (is_ready t y)) other ∙ one_of_none (is_ready t y)
+
+      added : (c : Bool) → times (is_same_process y) first + (if c then 0 else times (is_same_process y) last) ≡ times (is_same_process y) first
+      added true = omega arith
+      added false = omega (arith, none_last)
+
+  own_next : times (is_same_process x) (next_ready d s t x xs) ≡ one_if (is_held b t x)
+  own_next = times_new x first last ∙ of_woken (is_woken from t x) refl
+    where
+      first_is : times (is_same_process x) first ≡ (if is_woken from t x then times (is_same_process x) (processes d) else 0)
+      first_is =
+          times_new x xs (woken d from t) ∙ ap (λ c. times (is_same_process x) xs + (if c then 0 else times (is_same_process x) (woken d from t))) (among_times x xs ∙ ap (nat_lt 0) isnt_behind) ∙ ap (λ n. n + times (is_same_process x) (woken d from t)) isnt_behind ∙ none_before (times (is_same_process x) (woken d from t)) ∙ times_filter (is_woken from t) x (processes d)
+
+      of_ready : (c : Bool) → is_ready t x ≡ c → times (is_same_process x) last ≡ one_if c
+      of_ready c is =
+          last_is x ∙ ap (one_of (is_ready t x)) (same_self x) ∙ one_of_one (is_ready t x) ∙ ap one_if is
+
+      of_woken : (w : Bool) → is_woken from t x ≡ w → times (is_same_process x) first + (if is_among first x then 0 else times (is_same_process x) last) ≡ one_if (is_held b t x)
+      of_woken true is =
+          let one : times (is_same_process x) first ≡ 1 = first_is ∙ ap (λ w. if w then times (is_same_process x) (processes d) else 0) is ∙ (own.woke is).1 in
+          ap (λ c. times (is_same_process x) first + (if c then 0 else times (is_same_process x) last)) (among_times x first ∙ ap (nat_lt 0) one) ∙ omega (arith, one) ∙ ap one_if (sym (own.woke is).0)
+      of_woken false is =
+          let none : times (is_same_process x) first ≡ 0 = first_is ∙ ap (λ w. if w then times (is_same_process x) (processes d) else 0) is in
+          ap (λ c. times (is_same_process x) first + (if c then 0 else times (is_same_process x) last)) (among_times x first ∙ ap (nat_lt 0) none) ∙ omega (arith, none) ∙ of_ready (is_ready t x) refl ∙ ap one_if (sym own.ready)
+
+  holds_next : Holds b t (next_ready d s t x xs)
+  holds_next y = of_own (is_same_process y x) refl
+    where
+      of_own : (c : Bool) → is_same_process y x ≡ c → times (is_same_process y) (next_ready d s t x xs) ≡ one_if (is_held b t y)
+      of_own false other = other_next y other
+      of_own true same =
+          subst (λ z. times (is_same_process z) (next_ready d s t x xs) ≡ one_if (is_held b t z)) (sym (same_is y x same)) own_next
+
+  waiting_next : b ≡ false → AllUnbegun t (combs d)
+  waiting_next isnt p among = of_process x was_held run
+    where
+      before : standing_at s p ≡ Unbegun
+      before = kept.waiting isnt p among
+
+      moved_on : StandsOn (standing_at s p) (standing_at t p) → standing_at t p ≡ Unbegun
+      moved_on (inl same) = same ∙ before
+      moved_on (inr w) = absurd (false≢true (ap is_waiting (sym before) ∙ w.0))
+
+      of_process : (x : Process) → is_held b s x ≡ true → steps d (copies (entry_of d s x)) s ≡ Some t → standing_at t p ≡ Unbegun
+      of_process (Assignment a) held r =
+          moved_on (steps_stand d (AssignEvent a) (entry_of d s (Assignment a)).count s t p tt r)
+      of_process (Procedure q) held r = moved_on (steps_stand d (Stmt q) 1 s t p not_it r)
+        where
+          not_it : q ≡ p → ⊥
+          not_it e =
+              false≢true (sym (ap (stands_listed b) (ap (standing_at s) e ∙ before) ∙ isnt) ∙ held)
+
+  pub kept_next : Kept d b t (next_ready d s t x xs)
+  kept_next = record {
+    holds = holds_next;
+    begins = λ is. begins_last d (copies (entry_of d s x)) s t run (kept.begins is);
+    waiting = waiting_next;
+    fits = fits_then;
+  }
+
+-- ---- a publication
+module _ (d : Design) (design : IsDesign d) (b : Bool) (n k : ℕ) (order : List ℕ) (s t : MachineState) (runs : steps d (replicate k (Resolve n order)) s ≡ Some t) (xs : List Process) (kept : Kept d b s xs) where
+  then_fits : IsStateOf d t
+  then_fits = steps_keep d (replicate k (Resolve n order)) s t design kept.fits runs
+
+  follows_net : (y : Process) → Follows d b s s t y
+  follows_net (Procedure p) = proc_follows d b s s t p refl kept.fits (steps_stand d (Resolve n order) k s t p tt runs)
+  follows_net (Assignment a) = assign_follows d b s s t a refl then_fits (evaluations_last d (Resolve n order) k s t a tt runs)
+
+  woken_among : (y : Process) → times (is_same_process y) (filter (is_among (processes d)) (woken d s t)) ≡ times (is_same_process y) (woken d s t)
+  woken_among y = times_filter (is_among (processes d)) y (woken d s t) ∙ of_among (is_among (processes d) y) refl
+    where
+      news : times (is_same_process y) (woken d s t) ≡ (if is_woken s t y then times (is_same_process y) (processes d) else 0)
+      news = times_filter (is_woken s t) y (processes d)
+
+      of_woken : (w : Bool) → nat_lt 0 (times (is_same_process y) (processes d)) ≡ false → 0 ≡ (if w then times (is_same_process y) (processes d) else 0)
+      of_woken true none = sym (none_pending (times (is_same_process y) (processes d)) none)
+      of_woken false none = refl
+
+      of_among : (c : Bool) → is_among (processes d) y ≡ c → (if c then times (is_same_process y) (woken d s t) else 0) ≡ times (is_same_process y) (woken d s t)
+      of_among true is = refl
+      of_among false is = of_woken (is_woken s t y) (sym (among_times y (processes d)) ∙ is) ∙ sym news
+
+  pub kept_published : Kept d b t (with_new xs (filter (is_among (processes d)) (woken d s t)))
+  kept_published = record {
+    holds = λ y. times_new y xs (filter (is_among (processes d)) (woken d s t)) ∙ ap (λ m. times (is_same_process y) xs + (if is_among xs y then 0 else m)) (woken_among y) ∙ sym (times_new y xs (woken d s t)) ∙ held_next d b s s t y xs (follows_net y) (kept.holds y);
+    begins = λ is. begins_last d (replicate k (Resolve n order)) s t runs (kept.begins is);
+    waiting = λ isnt p among. still p (kept.waiting isnt p among) (steps_stand d (Resolve n order) k s t p tt runs);
+    fits = then_fits;
+  }
+    where
+      still : (p : ℕ) → standing_at s p ≡ Unbegun → StandsOn (standing_at s p) (standing_at t p) → standing_at t p ≡ Unbegun
+      still p before (inl same) = same ∙ before
+      still p before (inr w) = absurd (false≢true (ap is_waiting (sym before) ∙ w.0))

@@ -1,4 +1,5 @@
 -- What is in Active stays there until its own event: evaluations, resolutions, and that an `always_comb` may begin.
+use Rattle.std.specs.Prelude.{⊤}
 use Rattle.std.proofs.Common.{◌≡◌, ℕ, zero, suc, ◌+◌, ◌-◌, ◌<◌, ◌≤◌, Bool, true, false, not, ◌||◌, if◌then◌else◌, List, [], ◌∷◌, ◌++◌, length, replicate, Option, Some, None, option_and_then, slice_get, slice_set, nat_lt, refl, sym, ◌∙◌, ap, subst, arith, inl, inr, get_or-set_other, get_or-set_same}
 use Rattle.std.specs.List.{list_any}
 use Rattle.std.proofs.lemmas.Bool.{false≢true, ltb-true}
@@ -157,11 +158,11 @@ NoEvaluation a Update = ⊤
 NoEvaluation a (Resolve n order) = ⊤
 
 evaluations_without : (s : MachineState) (e : Event) (a : ℕ) → NoEvaluation a e → count_at s.evaluations a ≤ count_at (without s e).evaluations a
-evaluations_without s (Stmt p) a no = omega arith
-evaluations_without s Update a no = omega arith
-evaluations_without s (Resolve n order) a no = omega arith
-evaluations_without s (AssignEvent b) a no =
-    omega (arith, get_or-set_other s.evaluations b a (count_at s.evaluations b - 1) 0 no)
+evaluations_without s (Stmt p) a other = omega arith
+evaluations_without s Update a other = omega arith
+evaluations_without s (Resolve n order) a other = omega arith
+evaluations_without s (AssignEvent b) a other =
+    omega (arith, get_or-set_other s.evaluations b a (count_at s.evaluations b - 1) 0 other)
 
 begins_without : (s : MachineState) (e : Event) → may_begin s ≡ true → may_begin (without s e) ≡ true
 begins_without s (Stmt p) h = h
@@ -170,8 +171,8 @@ begins_without s (AssignEvent a) h = h
 begins_without s (Resolve n order) h = h
 
 pub evaluation_lasts : (d : Design) (s t : MachineState) (e : Event) (a : ℕ) → NoEvaluation a e → step d s e ≡ Some t → count_at s.evaluations a ≤ count_at t.evaluations a
-evaluation_lasts d s t e a no h =
-    omega (arith, evaluations_without s e a no, (step_lasts d s t e h).evaluations a)
+evaluation_lasts d s t e a other h =
+    omega (arith, evaluations_without s e a other, (step_lasts d s t e h).evaluations a)
 
 pub begin_lasts : (d : Design) (s t : MachineState) (e : Event) → step d s e ≡ Some t → may_begin s ≡ true → may_begin t ≡ true
 begin_lasts d s t e h may = (step_lasts d s t e h).begins (begins_without s e may)
@@ -190,14 +191,14 @@ abbrev StepThen : Design → List Event → MachineState → MachineState → Ty
 StepThen d es s t = steps d es s ≡ Some t
 
 pub evaluations_last : (d : Design) (e : Event) (k : ℕ) (s t : MachineState) (a : ℕ) → NoEvaluation a e → steps d (replicate k e) s ≡ Some t → count_at s.evaluations a ≤ count_at t.evaluations a
-evaluations_last d e zero s t a no h =
+evaluations_last d e zero s t a other h =
     subst (λ (u : MachineState). count_at s.evaluations a ≤ count_at u.evaluations a) (same_Some s t h) (omega arith)
-evaluations_last d e (suc k) s t a no h =
-    of_step (λ u. evaluations_last d e k u t a no) (step d s e) refl h
+evaluations_last d e (suc k) s t a other h =
+    of_step (λ u. evaluations_last d e k u t a other) (step d s e) refl h
   where
     of_step : ((u : MachineState) → steps d (replicate k e) u ≡ Some t → count_at u.evaluations a ≤ count_at t.evaluations a) → (o : Option MachineState) → step d s e ≡ o → option_and_then (steps d (replicate k e)) o ≡ Some t → count_at s.evaluations a ≤ count_at t.evaluations a
     of_step rest None is g = absurd (none_some t g)
-    of_step rest (Some u) is g = omega (arith, evaluation_lasts d s u e a no is, rest u g)
+    of_step rest (Some u) is g = omega (arith, evaluation_lasts d s u e a other is, rest u g)
 
 pub begins_last : (d : Design) (es : List Event) (s t : MachineState) → steps d es s ≡ Some t → may_begin s ≡ true → may_begin t ≡ true
 begins_last d [] s t h may = subst (λ (u : MachineState). may_begin u ≡ true) (same_Some s t h) may

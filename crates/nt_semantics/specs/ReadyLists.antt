@@ -1,5 +1,5 @@
 -- When ready lists are right: each process that has an event in Active stands on its list (this project's own).
-use Rattle.std.specs.Prelude.{◌≡◌, ◌↔◌, ◌⊎◌, ⊤, ℕ, ◌+◌, ◌<◌, ◌≤◌, ◌==◌, nat_lt, Bool, true, false, ◌&&◌, List, [], ◌∷◌, length, Contains, IsSome}
+use Rattle.std.specs.Prelude.{◌≡◌, ◌↔◌, ◌⊎◌, ⊤, ℕ, ◌+◌, ◌<◌, ◌≤◌, ◌==◌, nat_lt, Bool, true, false, ◌&&◌, if◌then◌else◌, List, [], ◌∷◌, length, Contains, IsSome}
 use Rattle.nt_design.specs.declared.design.Design.{Design}
 use Rattle.nt_semantics.specs.Groups.{processes, is_among, is_same_process}
 use Rattle.nt_semantics.specs.Rounds.{Away, RoundState, RoundEnd, procs_at, combs as all_combs, is_ready, is_waiting}
@@ -45,7 +45,7 @@ one_if false = 0
 
 abbrev pub times : {A : Type 0} → (A → Bool) → List A → ℕ
 times is [] = 0
-times is (x ∷ xs) = one_if (is x) + times is xs
+times is (x ∷ xs) = if is x then 1 + times is xs else times is xs
 
 -- a process that a ready list has to hold: it has an event in Active, where an `always_comb` before its first step counts
 -- once it was put on the list
