@@ -32,33 +32,40 @@ among_times y (x ∷ xs) = of_same (among_times y xs) (is_same_process y x)
     of_same rest true = sym (lt-ltb 0 (1 + times (is_same_process y) xs) (omega arith))
     of_same rest false = rest
 
-abbrev Filtered : (Process → Bool) → Process → List Process → Type 0
-Filtered g y xs = times (is_same_process y) (filter g xs) ≡ (if g y then times (is_same_process y) xs else 0)
+-- where the test finds one item alone, as often as it is kept
+module _ {A : Type 0} (same : A → Bool) (g : A → Bool) (y : A) (found : (x : A) → same x ≡ true → y ≡ x) where
+  abbrev Filtered : List A → Type 0
+  Filtered xs = times same (filter g xs) ≡ (if g y then times same xs else 0)
 
-pub times_filter : (g : Process → Bool) (y : Process) (xs : List Process) → Filtered g y xs
-times_filter g y [] = of_kept (g y)
-  where
-    of_kept : (b : Bool) → times (is_same_process y) [] ≡ (if b then times (is_same_process y) [] else 0)
-    of_kept true = refl
-    of_kept false = refl
-times_filter g y (x ∷ xs) = of_same (times_filter g y xs) (is_same_process y x) refl
-  where
-    -- where it is this item, it is kept as the process is
-    here : Filtered g y xs → (b : Bool) → g y ≡ b → is_same_process y x ≡ true → times (is_same_process y) (if b then x ∷ filter g xs else filter g xs) ≡ (if b then 1 + times (is_same_process y) xs else 0)
-    here rest true is same =
-        ap (λ c. if c then 1 + times (is_same_process y) (filter g xs) else times (is_same_process y) (filter g xs)) same ∙ ap (λ n. 1 + n) (rest ∙ ap (λ b. if b then times (is_same_process y) xs else 0) is)
-    here rest false is same = rest ∙ ap (λ b. if b then times (is_same_process y) xs else 0) is
+  filtered : (xs : List A) → Filtered xs
+  filtered [] = of_kept (g y)
+    where
+      of_kept : (b : Bool) → times same [] ≡ (if b then times same [] else 0)
+      of_kept true = refl
+      of_kept false = refl
+  filtered (x ∷ xs) = of_same (filtered xs) (same x) refl
+    where
+      -- where it is this item, it is kept as the item is
+      here : Filtered xs → (b : Bool) → g y ≡ b → same x ≡ true → times same (if b then x ∷ filter g xs else filter g xs) ≡ (if b then 1 + times same xs else 0)
+      here rest true is it =
+          ap (λ c. if c then 1 + times same (filter g xs) else times same (filter g xs)) it ∙ ap (λ n. 1 + n) (rest ∙ ap (λ b. if b then times same xs else 0) is)
+      here rest false is it = rest ∙ ap (λ b. if b then times same xs else 0) is
 
-    other : Filtered g y xs → (b : Bool) → is_same_process y x ≡ false → times (is_same_process y) (if b then x ∷ filter g xs else filter g xs) ≡ (if g y then times (is_same_process y) xs else 0)
-    other rest true isnt =
-        ap (λ c. if c then 1 + times (is_same_process y) (filter g xs) else times (is_same_process y) (filter g xs)) isnt ∙ rest
-    other rest false isnt = rest
+      other : Filtered xs → (b : Bool) → same x ≡ false → times same (if b then x ∷ filter g xs else filter g xs) ≡ (if g y then times same xs else 0)
+      other rest true isnt = ap (λ c. if c then 1 + times same (filter g xs) else times same (filter g xs)) isnt ∙ rest
+      other rest false isnt = rest
 
-    of_same : Filtered g y xs → (b : Bool) → is_same_process y x ≡ b → times (is_same_process y) (if g x then x ∷ filter g xs else filter g xs) ≡ (if g y then (if is_same_process y x then 1 + times (is_same_process y) xs else times (is_same_process y) xs) else 0)
-    of_same rest true same =
-        ap (λ z. times (is_same_process y) (if g z then x ∷ filter g xs else filter g xs)) (sym (same_is y x same)) ∙ here rest (g y) refl same ∙ ap (λ c. if g y then (if c then 1 + times (is_same_process y) xs else times (is_same_process y) xs) else 0) (sym same)
-    of_same rest false isnt =
-        other rest (g x) isnt ∙ ap (λ c. if g y then (if c then 1 + times (is_same_process y) xs else times (is_same_process y) xs) else 0) (sym isnt)
+      of_same : Filtered xs → (b : Bool) → same x ≡ b → times same (if g x then x ∷ filter g xs else filter g xs) ≡ (if g y then (if same x then 1 + times same xs else times same xs) else 0)
+      of_same rest true it =
+          ap (λ z. times same (if g z then x ∷ filter g xs else filter g xs)) (sym (found x it)) ∙ here rest (g y) refl it ∙ ap (λ c. if g y then (if c then 1 + times same xs else times same xs) else 0) (sym it)
+      of_same rest false isnt =
+          other rest (g x) isnt ∙ ap (λ c. if g y then (if c then 1 + times same xs else times same xs) else 0) (sym isnt)
+
+pub times_filter : (g : Process → Bool) (y : Process) (xs : List Process) → times (is_same_process y) (filter g xs) ≡ (if g y then times (is_same_process y) xs else 0)
+times_filter g y xs = filtered (is_same_process y) g y (same_is y) xs
+
+pub times_filter_number : (g : ℕ → Bool) (p : ℕ) (xs : List ℕ) → times (λ q. p == q) (filter g xs) ≡ (if g p then times (λ q. p == q) xs else 0)
+times_filter_number g p xs = filtered (λ q. p == q) g p (eqb-true p) xs
 
 -- of those that are new, what wasn't there stands as often as they say
 pub times_new : (y : Process) (xs ys : List Process) → times (is_same_process y) (with_new xs ys) ≡ times (is_same_process y) xs + (if is_among xs y then 0 else times (is_same_process y) ys)
@@ -98,7 +105,7 @@ past_range p a zero low = refl
 past_range p a (suc n) low =
     ap (λ (b : Bool). if b then 1 + times (λ q. p == q) (range_with_len (a + 1) n) else times (λ q. p == q) (range_with_len (a + 1) n)) (other_number p a (λ e. omega (arith, low, e))) ∙ past_range p (a + 1) n (omega (arith, low))
 
-in_range : (p a n : ℕ) → a ≤ p → p < a + n → times (λ q. p == q) (range_with_len a n) ≡ 1
+pub in_range : (p a n : ℕ) → a ≤ p → p < a + n → times (λ q. p == q) (range_with_len a n) ≡ 1
 in_range p a zero low high = absurd (omega (arith, low, high))
 in_range p a (suc n) low high = of_first (λ above. in_range p (a + 1) n above (omega (arith, high))) (p == a) refl
   where
@@ -130,25 +137,18 @@ assign_once d a low =
     omega (arith, parts, second, no_assign a (range_with_len 0 (length d.procs)))
 
 -- where a test chooses numbers, each stands at most once
-fewer_kept : (f : ℕ → Bool) (p : ℕ) (xs : List ℕ) → times (λ q. p == q) (filter f xs) ≤ times (λ q. p == q) xs
-fewer_kept f p [] = omega arith
-fewer_kept f p (x ∷ xs) = of_kept (fewer_kept f p xs) (f x) (p == x) refl
-  where
-    of_kept : times (λ q. p == q) (filter f xs) ≤ times (λ q. p == q) xs → (keeps same : Bool) → (p == x) ≡ same → times (λ q. p == q) (if keeps then x ∷ filter f xs else filter f xs) ≤ (if p == x then 1 + times (λ q. p == q) xs else times (λ q. p == q) xs)
-    of_kept more true true is = rw is (omega (arith, more))
-    of_kept more true false is = rw is more
-    of_kept more false true is = rw is (omega (arith, more))
-    of_kept more false false is = rw is more
+range_once : (p a n : ℕ) → times (λ q. p == q) (range_with_len a n) ≤ 1
+range_once p a n = elim (lt_or_le p a) [
+  | inl before ↦ omega (arith, past_range p a n before)
+  | inr from ↦ elim (lt_or_le p (a + n)) [
+    | inl below ↦ omega (arith, in_range p a n from below)
+    | inr past ↦ omega (arith, behind_range p a n past)
+  ]
+]
 
 pub chosen_once : (f : ℕ → Bool) (p a n : ℕ) → times (λ q. p == q) (filter f (range_with_len a n)) ≤ 1
-chosen_once f p a n =
-    let fewer = fewer_kept f p (range_with_len a n) in omega (arith, fewer, at_most)
+chosen_once f p a n = of_test (f p) (times_filter_number f p (range_with_len a n))
   where
-    at_most : times (λ q. p == q) (range_with_len a n) ≤ 1
-    at_most = elim (lt_or_le p a) [
-      | inl before ↦ omega (arith, past_range p a n before)
-      | inr from ↦ elim (lt_or_le p (a + n)) [
-        | inl below ↦ omega (arith, in_range p a n from below)
-        | inr past ↦ omega (arith, behind_range p a n past)
-      ]
-    ]
+    of_test : (b : Bool) → times (λ q. p == q) (filter f (range_with_len a n)) ≡ (if b then times (λ q. p == q) (range_with_len a n) else 0) → times (λ q. p == q) (filter f (range_with_len a n)) ≤ 1
+    of_test true is = omega (arith, is, range_once p a n)
+    of_test false is = omega (arith, is)

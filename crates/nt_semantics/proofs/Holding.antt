@@ -81,7 +81,7 @@ waiting_there s p h = elim (lt_or_le p (length s.standings)) [
   | inr past ↦ absurd (false≢true (ap is_waiting (sym (get_or_past s.standings p Over past)) ∙ h))
 ]
 
-count_there : (counts : List ℕ) (a : ℕ) → nat_lt 0 (count_at counts a) ≡ true → a < length counts
+pub count_there : (counts : List ℕ) (a : ℕ) → nat_lt 0 (count_at counts a) ≡ true → a < length counts
 count_there counts a h = elim (lt_or_le a (length counts)) [
   | inl low ↦ low
   | inr past ↦ absurd (false≢true (ap (nat_lt 0) (sym (get_or_past counts a 0 past)) ∙ h))

@@ -44,7 +44,7 @@ more_lasts (x ∷ xs) zero (suc k) = omega arith
 more_lasts (x ∷ xs) (suc i) zero = omega arith
 more_lasts (x ∷ xs) (suc i) (suc k) = more_lasts xs i k
 
-one_less : (counts : List ℕ) (i : ℕ) → count_at counts i ≤ count_at (fewer 1 counts i) i + 1
+pub one_less : (counts : List ℕ) (i : ℕ) → count_at counts i ≤ count_at (fewer 1 counts i) i + 1
 one_less [] i = omega arith
 one_less (x ∷ xs) zero = omega arith
 one_less (x ∷ xs) (suc i) = one_less xs i

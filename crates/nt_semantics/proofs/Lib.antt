@@ -32,6 +32,7 @@ pub mod Showing
 pub mod SmallCases
 pub mod StartFitting
 pub mod StepKeeps
+pub mod Stopping
 pub mod Sums
 pub mod Tying
 pub mod Unfolding

@@ -1,13 +1,14 @@
 -- Laws of the definitions, each a statement for a function without a body to promise.
-use Rattle.std.specs.Prelude.{◌≡◌, ◌↔◌, ◌⊎◌, ◌<◌, ◌≤◌, ◌^◌, ◌++◌, ℕ, true, false, List, [], ◌∷◌, Some, None, All}
+use Rattle.std.specs.Prelude.{◌≡◌, ◌↔◌, ◌⊎◌, ◌<◌, ◌≤◌, ◌^◌, ◌++◌, ℕ, true, false, List, [], ◌∷◌, length, slice_get, Some, None, All}
 use Rattle.std.specs.List.{range_with_len}
 use Rattle.std.specs.List.Sorted.{IsPermutation}
 use Rattle.nt_design.specs.WellFormed.{IsDesign}
 use Rattle.nt_design.specs.declared.design.Design.{Design}
+use Rattle.nt_design.specs.declared.object.Net.{Net}
 use Rattle.nt_semantics.specs.Execution.{Execution, enter_all, is_active, is_over, move, may_repeat, steps, run, expansion, ended, followed, seen}
 use Rattle.nt_semantics.specs.ReadyLists.{IsOther, Listed, OneListed, RoundFits, Shows, StandsOn, Tied}
 use Rattle.nt_semantics.specs.Groups.{processes}
-use Rattle.nt_semantics.specs.Rounds.{Away, RoundState, phase, round, RoundEnd, next_region, next_slot}
+use Rattle.nt_semantics.specs.Rounds.{Away, RoundState, phase, round, RoundEnd, next_region, next_slot, start_rounds}
 use Rattle.nt_semantics.specs.declared.process.Process.{Process}
 use Rattle.nt_semantics.specs.Slots.{Few, Went}
 use Rattle.nt_semantics.specs.State.{MachineState, start_state, standing_at, fewer}
@@ -99,15 +100,28 @@ abbrev pub RoundKeepsLists : Type 0
 RoundKeepsLists =
     (d : Design) (orders : ℕ → List ℕ) (r : RoundState) → OneListed d r.state r.ready → OneListed d (round d (processes d ∷ []) orders r).after.state (round d (processes d ∷ []) orders r).after.ready
 
--- a round of a state with something in Active has an entry, or an event that is too long
+-- a round of a state with something in Active, after the first, has an entry, or an event that is too long
 abbrev pub RoundShows : Type 0
 RoundShows =
-    (d : Design) (orders : ℕ → List ℕ) (r : RoundState) → RoundFits d r → is_active r.state ≡ true → Shows (round d (processes d ∷ []) orders r)
+    (d : Design) (orders : ℕ → List ℕ) (r : RoundState) → RoundFits d r → r.begun ≡ true → is_active r.state ≡ true → Shows (round d (processes d ∷ []) orders r)
 
 -- a round with one group keeps what is right between rounds
 abbrev pub RoundKeepsFits : Type 0
 RoundKeepsFits =
     (d : Design) (orders : ℕ → List ℕ) (r : RoundState) → IsDesign d → RoundFits d r → RoundFits d (round d (processes d ∷ []) orders r).after
+
+-- what is right between rounds is so at the start
+abbrev pub RoundsStartFit : Type 0
+RoundsStartFit = (d : Design) → IsDesign d → RoundFits d (start_rounds d (processes d ∷ []))
+
+-- each of these orders is one of its net's slots
+abbrev pub AreOrders : Design → (ℕ → List ℕ) → Type 0
+AreOrders d orders = (n : ℕ) (net : Net) → slice_get d.nets n ≡ Some net → is_order (length net.slots) (orders n) ≡ true
+
+-- the entries of a round with one group lead within a slot from its start to its end, and what stops it is too long there
+abbrev pub RoundGoes : Type 0
+RoundGoes =
+    (d : Design) (orders : ℕ → List ℕ) (r : RoundState) → IsDesign d → AreOrders d orders → RoundFits d r → Went d r.state (round d (processes d ∷ []) orders r).entries (round d (processes d ∷ []) orders r).too_long (round d (processes d ∷ []) orders r).after.state
 
 -- rounds keep the procedures that were put away on their lists, and so do the next region and the next slot
 abbrev pub RoundKeepsTied : Type 0

@@ -1,5 +1,5 @@
 // Laws of the definitions in specs/, each proved of every design and state.
-ghost use Rattle.nt_semantics.specs.Laws.{ExecutionFits, OrdersArePermutations, OnlyPending, AgainChangesNothing, RoundLeads, MoveFills, MoveKeeps, MoveStays, StartFits, StepKeeps, EndedIsFollowed, WitnessIsOne, OthersWakeTheWaiting, PhaseKeepsLists, RoundKeepsLists, RoundShows, OnlyActive, SlotsBeginSmall, RoundEnters, EntriesGo, RoundKeepsFits, RoundKeepsTied, RegionKeepsTied, SlotKeepsTied};
+ghost use Rattle.nt_semantics.specs.Laws.{ExecutionFits, OrdersArePermutations, OnlyPending, AgainChangesNothing, RoundLeads, MoveFills, MoveKeeps, MoveStays, StartFits, StepKeeps, EndedIsFollowed, WitnessIsOne, OthersWakeTheWaiting, PhaseKeepsLists, RoundKeepsLists, RoundShows, OnlyActive, SlotsBeginSmall, RoundEnters, EntriesGo, RoundKeepsFits, RoundsStartFit, RoundGoes, RoundKeepsTied, RegionKeepsTied, SlotKeepsTied};
 
 /// The orders that a resolution of n slots may name are the permutations of the numbers below n (4.7).
 pub fn orders_are_permutations()
@@ -77,7 +77,7 @@ pub fn round_keeps_lists()
     ensures { RoundKeepsLists }
 {}
 
-/// A round of a state with something in Active has an entry, or an event that is too long.
+/// A round after the first of a state with something in Active has an entry, or an event that is too long.
 pub fn round_shows()
     ensures { RoundShows }
 {}
@@ -105,6 +105,16 @@ pub fn entries_go()
 /// A round with one group keeps what is right between rounds: its list, and each `always_comb` that may begin on it.
 pub fn round_keeps_fits()
     ensures { RoundKeepsFits }
+{}
+
+/// What is right between rounds is so at the start.
+pub fn rounds_start_fit()
+    ensures { RoundsStartFit }
+{}
+
+/// The entries of a round with one group lead within a slot from its start to its end, and what stops it takes too many turns there.
+pub fn round_goes()
+    ensures { RoundGoes }
 {}
 
 /// Rounds keep the procedures that were put away on their lists.

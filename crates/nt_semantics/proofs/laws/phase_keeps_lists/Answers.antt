@@ -1,4 +1,3 @@
-use Rattle.nt_semantics.proofs.Holding.{held_next}
 use Rattle.nt_semantics.proofs.Listing.{phase_listed}
 use Rattle.nt_semantics.proofs.laws.phase_keeps_lists.Goals as goal
 
