@@ -14,7 +14,7 @@ use Rattle.nt_semantics.specs.declared.deed.Deed.TheVariants as deed
 use Rattle.nt_semantics.specs.declared.event.Event.{Event}
 use Rattle.nt_semantics.specs.declared.event.Event.TheVariants.{Stmt, Assign as AssignEvent, Update, Resolve}
 use Rattle.nt_semantics.specs.declared.standing.Standing.{Standing}
-use Rattle.nt_semantics.specs.declared.standing.Standing.TheVariants.{Unbegun, Over}
+use Rattle.nt_semantics.specs.declared.standing.Standing.TheVariants.{Unbegun, Ready, Inactive, Later, Waits, Over}
 use Rattle.nt_semantics.specs.declared.work.Work.{Work}
 use Rattle.nt_semantics.specs.declared.work.Work.TheVariants.{Do, Testing, Stepping, Repeating, Counting, Each, Awaiting}
 
@@ -22,6 +22,14 @@ use Rattle.nt_semantics.specs.declared.work.Work.TheVariants.{Do, Testing, Stepp
 abbrev pub is_unbegun : Standing → Bool
 is_unbegun Unbegun = true
 is_unbegun _ = false
+
+pub unbegun_is : (a : Standing) → is_unbegun a ≡ true → a ≡ Unbegun
+unbegun_is Unbegun h = refl
+unbegun_is Ready h = absurd (false≢true h)
+unbegun_is Inactive h = absurd (false≢true h)
+unbegun_is (Later at) h = absurd (false≢true h)
+unbegun_is (Waits values) h = absurd (false≢true h)
+unbegun_is Over h = absurd (false≢true h)
 
 going_begun : (items : List Work) → is_unbegun (going_on items) ≡ false
 going_begun [] = refl

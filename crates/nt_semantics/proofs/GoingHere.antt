@@ -76,5 +76,5 @@ entries_go d entries s t design of h =
       counted = x.counted;
       long = tt;
       moment = x.moment;
-      grows = x.grows;
+      grows = λ most some few. x.grows most few;
     }

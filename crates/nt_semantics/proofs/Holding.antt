@@ -319,14 +319,15 @@ module _ (d : Design) (design : IsDesign d) (b : Bool) (s t : MachineState) (x :
     fits = fits_then;
   }
 
--- ---- a publication
-module _ (d : Design) (design : IsDesign d) (b : Bool) (n k : ℕ) (order : List ℕ) (s t : MachineState) (runs : steps d (replicate k (Resolve n order)) s ≡ Some t) (xs : List Process) (kept : Kept d b s xs) where
+-- ---- events that are no process's own
+module _ (d : Design) (design : IsDesign d) (b : Bool) (e : Event) (others : (p : ℕ) → IsOther p e) (none_evaluated : (a : ℕ) → NoEvaluation a e) (k : ℕ) (s t : MachineState) (runs : steps d (replicate k e) s ≡ Some t) (xs : List Process) (kept : Kept d b s xs) where
   then_fits : IsStateOf d t
-  then_fits = steps_keep d (replicate k (Resolve n order)) s t design kept.fits runs
+  then_fits = steps_keep d (replicate k e) s t design kept.fits runs
 
-  follows_net : (y : Process) → Follows d b s s t y
-  follows_net (Procedure p) = proc_follows d b s s t p refl kept.fits (steps_stand d (Resolve n order) k s t p tt runs)
-  follows_net (Assignment a) = assign_follows d b s s t a refl then_fits (evaluations_last d (Resolve n order) k s t a tt runs)
+  follows_event : (y : Process) → Follows d b s s t y
+  follows_event (Procedure p) = proc_follows d b s s t p refl kept.fits (steps_stand d e k s t p (others p) runs)
+  follows_event (Assignment a) =
+      assign_follows d b s s t a refl then_fits (evaluations_last d e k s t a (none_evaluated a) runs)
 
   woken_among : (y : Process) → times (is_same_process y) (filter (is_among (processes d)) (woken d s t)) ≡ times (is_same_process y) (woken d s t)
   woken_among y = times_filter (is_among (processes d)) y (woken d s t) ∙ of_among (is_among (processes d) y) refl
@@ -342,14 +343,19 @@ module _ (d : Design) (design : IsDesign d) (b : Bool) (n k : ℕ) (order : List
       of_among true is = refl
       of_among false is = of_woken (is_woken s t y) (sym (among_times y (processes d)) ∙ is) ∙ sym news
 
-  pub kept_published : Kept d b t (with_new xs (filter (is_among (processes d)) (woken d s t)))
-  kept_published = record {
-    holds = λ y. times_new y xs (filter (is_among (processes d)) (woken d s t)) ∙ ap (λ m. times (is_same_process y) xs + (if is_among xs y then 0 else m)) (woken_among y) ∙ sym (times_new y xs (woken d s t)) ∙ held_next d b s s t y xs (follows_net y) (kept.holds y);
-    begins = λ is. begins_last d (replicate k (Resolve n order)) s t runs (kept.begins is);
-    waiting = λ isnt p among. still p (kept.waiting isnt p among) (steps_stand d (Resolve n order) k s t p tt runs);
+  pub kept_after : Kept d b t (with_new xs (filter (is_among (processes d)) (woken d s t)))
+  kept_after = record {
+    holds = λ y. times_new y xs (filter (is_among (processes d)) (woken d s t)) ∙ ap (λ m. times (is_same_process y) xs + (if is_among xs y then 0 else m)) (woken_among y) ∙ sym (times_new y xs (woken d s t)) ∙ held_next d b s s t y xs (follows_event y) (kept.holds y);
+    begins = λ is. begins_last d (replicate k e) s t runs (kept.begins is);
+    waiting = λ isnt p among. still p (kept.waiting isnt p among) (steps_stand d e k s t p (others p) runs);
     fits = then_fits;
   }
     where
       still : (p : ℕ) → standing_at s p ≡ Unbegun → StandsOn (standing_at s p) (standing_at t p) → standing_at t p ≡ Unbegun
       still p before (inl same) = same ∙ before
       still p before (inr w) = absurd (false≢true (ap is_waiting (sym before) ∙ w.0))
+
+-- publications of a net
+pub kept_published : (d : Design) (design : IsDesign d) (b : Bool) (n k : ℕ) (order : List ℕ) (s t : MachineState) → steps d (replicate k (Resolve n order)) s ≡ Some t → (xs : List Process) → Kept d b s xs → Kept d b t (with_new xs (filter (is_among (processes d)) (woken d s t)))
+kept_published d design b n k order s t runs xs kept =
+    kept_after d design b (Resolve n order) (λ p. tt) (λ a. tt) k s t runs xs kept

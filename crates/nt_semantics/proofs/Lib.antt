@@ -2,6 +2,7 @@ pub mod Acting
 pub mod Again
 pub mod Beginning
 pub mod Begun
+pub mod Bringing
 pub mod Columns
 pub mod Combs
 pub mod Counting
@@ -23,6 +24,7 @@ pub mod MovingHere
 pub mod Orders
 pub mod Parts
 pub mod ProcKeeps
+pub mod RegionFitting
 pub mod RoundFitting
 pub mod RoundSteps
 pub mod Rounding

@@ -9,7 +9,7 @@ use Rattle.nt_design.specs.WellFormed.{IsDesign}
 use Rattle.nt_design.specs.declared.design.Design.{Design}
 use Rattle.nt_design.specs.declared.object.Net.{Net}
 use Rattle.nt_design.specs.declared.process.Proc.{Proc}
-use Rattle.nt_semantics.proofs.Begun.{is_unbegun, steps_before}
+use Rattle.nt_semantics.proofs.Begun.{is_unbegun, steps_before, unbegun_is}
 use Rattle.nt_semantics.proofs.Counting.{among_times, assign_once, chosen_once, in_range, no_assign, proc_once, times_filter, times_filter_number, times_new, times_procs}
 use Rattle.nt_semantics.proofs.GoingHere.{entries_go, leaves}
 use Rattle.nt_semantics.proofs.Holding.{Kept, count_there, kept_next, kept_published}
@@ -60,14 +60,6 @@ same_listed b Inactive h = refl
 same_listed b (Later at) h = refl
 same_listed b (Waits kept) h = refl
 same_listed b Over h = refl
-
-unbegun_is : (a : Standing) → is_unbegun a ≡ true → a ≡ Unbegun
-unbegun_is Unbegun h = refl
-unbegun_is Ready h = absurd (false≢true h)
-unbegun_is Inactive h = absurd (false≢true h)
-unbegun_is (Later at) h = absurd (false≢true h)
-unbegun_is (Waits kept) h = absurd (false≢true h)
-unbegun_is Over h = absurd (false≢true h)
 
 -- an `always_comb` more or less on a list that holds the others
 module _ (d : Design) (t : MachineState) (xs : List Process) (holds : Holds false t xs) (waiting : AllUnbegun t (combs d)) (unbegun : UnbegunListed t (combs d)) (fits : IsStateOf d t) where

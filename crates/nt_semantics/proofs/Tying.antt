@@ -168,7 +168,7 @@ later_other q p at (Waits kept) away other = (λ c. c, λ c. c)
 later_other q p at Over away other = (λ c. c, λ c. c)
 
 -- ---- how often a procedure was put away
-times_none : (p : ℕ) (xs : List ℕ) → (Contains xs p → ⊥) → times (λ q. p == q) xs ≡ 0
+pub times_none : (p : ℕ) (xs : List ℕ) → (Contains xs p → ⊥) → times (λ q. p == q) xs ≡ 0
 times_none p [] none = refl
 times_none p (x ∷ xs) none = of_first (times_none p xs (λ c. none (suc c.0, omega (arith, c.1), c.2))) (p == x) refl
   where

@@ -123,6 +123,15 @@ abbrev pub RoundGoes : Type 0
 RoundGoes =
     (d : Design) (orders : ℕ → List ℕ) (r : RoundState) → IsDesign d → AreOrders d orders → RoundFits d r → Went d r.state (round d (processes d ∷ []) orders r).entries (round d (processes d ∷ []) orders r).too_long (round d (processes d ∷ []) orders r).after.state
 
+-- so do the next region and the next slot
+abbrev pub RegionKeepsFits : Type 0
+RegionKeepsFits =
+    (d : Design) (r : RoundState) (e : RoundEnd) → IsDesign d → RoundFits d r → Tied r.state r.away → next_region d (processes d ∷ []) r ≡ Some e → RoundFits d e.after
+
+abbrev pub SlotKeepsFits : Type 0
+SlotKeepsFits =
+    (until : ℕ) (d : Design) (r : RoundState) (e : RoundEnd) → until ≤ 2 ^ 48 → RoundFits d r → Tied r.state r.away → next_slot until (processes d ∷ []) r ≡ Some e → RoundFits d e.after
+
 -- rounds keep the procedures that were put away on their lists, and so do the next region and the next slot
 abbrev pub RoundKeepsTied : Type 0
 RoundKeepsTied =

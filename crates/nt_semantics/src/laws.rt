@@ -1,5 +1,5 @@
 // Laws of the definitions in specs/, each proved of every design and state.
-ghost use Rattle.nt_semantics.specs.Laws.{ExecutionFits, OrdersArePermutations, OnlyPending, AgainChangesNothing, RoundLeads, MoveFills, MoveKeeps, MoveStays, StartFits, StepKeeps, EndedIsFollowed, WitnessIsOne, OthersWakeTheWaiting, PhaseKeepsLists, RoundKeepsLists, RoundShows, OnlyActive, SlotsBeginSmall, RoundEnters, EntriesGo, RoundKeepsFits, RoundsStartFit, RoundGoes, RoundKeepsTied, RegionKeepsTied, SlotKeepsTied};
+ghost use Rattle.nt_semantics.specs.Laws.{ExecutionFits, OrdersArePermutations, OnlyPending, AgainChangesNothing, RoundLeads, MoveFills, MoveKeeps, MoveStays, StartFits, StepKeeps, EndedIsFollowed, WitnessIsOne, OthersWakeTheWaiting, PhaseKeepsLists, RoundKeepsLists, RoundShows, OnlyActive, SlotsBeginSmall, RoundEnters, EntriesGo, RoundKeepsFits, RegionKeepsFits, SlotKeepsFits, RoundsStartFit, RoundGoes, RoundKeepsTied, RegionKeepsTied, SlotKeepsTied};
 
 /// The orders that a resolution of n slots may name are the permutations of the numbers below n (4.7).
 pub fn orders_are_permutations()
@@ -105,6 +105,16 @@ pub fn entries_go()
 /// A round with one group keeps what is right between rounds: its list, and each `always_comb` that may begin on it.
 pub fn round_keeps_fits()
     ensures { RoundKeepsFits }
+{}
+
+/// So does the next region.
+pub fn region_keeps_fits()
+    ensures { RegionKeepsFits }
+{}
+
+/// So does the next slot, up to a time limit of at most 2^48.
+pub fn slot_keeps_fits()
+    ensures { SlotKeepsFits }
 {}
 
 /// What is right between rounds is so at the start.
