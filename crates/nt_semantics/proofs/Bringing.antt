@@ -1,12 +1,12 @@
 -- Procedures that a move brings back stand on the ready list once.
 use Rattle.std.specs.Prelude.{◌↔◌, Contains}
-use Rattle.std.proofs.Common.{◌≡◌, inl, inr, ℕ, zero, suc, ◌+◌, ◌<◌, ◌≤◌, ◌==◌, nat_lt, Bool, true, false, not, ◌&&◌, ◌||◌, if◌then◌else◌, List, [], ◌∷◌, length, map, filter, get_or, refl, sym, ◌∙◌, ap, subst, arith}
-use Rattle.std.proofs.lemmas.Bool.{false≢true, eq-eqb, lt-ltb}
+use Rattle.std.proofs.Common.{◌≡◌, ℕ, zero, suc, ◌+◌, ◌<◌, ◌≤◌, ◌==◌, nat_lt, Bool, true, false, if◌then◌else◌, List, [], ◌∷◌, length, map, filter, get_or, refl, sym, ◌∙◌, ap, subst, arith}
+use Rattle.std.proofs.lemmas.Bool.{false≢true, eq-eqb}
 use Rattle.nt_design.specs.declared.design.Design.{Design}
 use Rattle.nt_semantics.proofs.Counting.{among_times, no_assign, proc_once, times_filter, times_new, times_procs}
 use Rattle.nt_semantics.proofs.Tying.{times_none}
 use Rattle.nt_semantics.specs.Groups.{processes, is_among, is_same_process}
-use Rattle.nt_semantics.specs.ReadyLists.{Holds, is_held, one_if, stands_listed, times}
+use Rattle.nt_semantics.specs.ReadyLists.{Holds, one_if, stands_listed, times}
 use Rattle.nt_semantics.specs.Rounds.{with_new}
 use Rattle.nt_semantics.specs.State.{MachineState, count_at, standing_at}
 use Rattle.nt_semantics.specs.declared.process.Process.{Process}

@@ -1,13 +1,13 @@
 -- A ready list goes on holding just the processes that have an event in Active, each once.
-use Rattle.std.proofs.Common.{◌≡◌, ◌⊎◌, inl, inr, ℕ, zero, suc, ◌+◌, ◌-◌, ◌<◌, ◌≤◌, ◌==◌, nat_lt, Bool, true, false, not, ◌&&◌, ◌||◌, if◌then◌else◌, List, [], ◌∷◌, length, filter, get_or, replicate, Option, Some, None, option_and_then, refl, sym, ◌∙◌, ap, subst, arith, get_or-set_other}
-use Rattle.std.proofs.lemmas.Bool.{false≢true, eq-eqb, eqb-true, ltb-true, lt-ltb}
+use Rattle.std.proofs.Common.{◌≡◌, inl, inr, ℕ, zero, suc, ◌+◌, ◌<◌, ◌≤◌, nat_lt, Bool, true, false, ◌&&◌, if◌then◌else◌, List, [], ◌∷◌, length, filter, get_or, replicate, Option, Some, None, option_and_then, refl, sym, ◌∙◌, ap, subst, arith, get_or-set_other}
+use Rattle.std.proofs.lemmas.Bool.{false≢true, eq-eqb, ltb-true, lt-ltb}
 use Rattle.std.proofs.lemmas.List.{get_or_past}
 use Rattle.std.proofs.lemmas.Option.{same_Some}
 use Rattle.nt_design.specs.WellFormed.{IsDesign}
 use Rattle.nt_design.specs.declared.design.Design.{Design}
-use Rattle.nt_semantics.proofs.Begun.{is_unbegun, step_begun}
+use Rattle.nt_semantics.proofs.Begun.{step_begun}
 use Rattle.nt_semantics.proofs.Counting.{among_times, assign_once, proc_once, same_self, times_filter, times_new}
-use Rattle.nt_semantics.proofs.Lasting.{NoEvaluation, begins_last, evaluated_once, evaluations_last}
+use Rattle.nt_semantics.proofs.Lasting.{NoEvaluation, begins_last, evaluations_last}
 use Rattle.nt_semantics.proofs.Listing.{entered, none_pending, same_is}
 use Rattle.nt_semantics.proofs.StepKeeps.{steps_keep}
 use Rattle.nt_semantics.proofs.Waking.{lt_or_le, none_some, others_stand}

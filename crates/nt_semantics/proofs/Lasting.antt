@@ -1,8 +1,8 @@
 -- What is in Active stays there until its own event: evaluations, resolutions, and that an `always_comb` may begin.
 use Rattle.std.specs.Prelude.{⊤}
-use Rattle.std.proofs.Common.{◌≡◌, ℕ, zero, suc, ◌+◌, ◌-◌, ◌<◌, ◌≤◌, Bool, true, false, not, ◌||◌, if◌then◌else◌, List, [], ◌∷◌, ◌++◌, length, replicate, Option, Some, None, option_and_then, slice_get, slice_set, nat_lt, refl, sym, ◌∙◌, ap, subst, arith, inl, inr, get_or-set_other, get_or-set_same}
+use Rattle.std.proofs.Common.{◌≡◌, ℕ, zero, suc, ◌+◌, ◌-◌, ◌≤◌, Bool, true, false, not, if◌then◌else◌, List, [], ◌∷◌, length, replicate, Option, Some, None, option_and_then, slice_get, slice_set, nat_lt, refl, subst, arith, inl, inr, get_or-set_other}
 use Rattle.std.specs.List.{list_any}
-use Rattle.std.proofs.lemmas.Bool.{false≢true, ltb-true}
+use Rattle.std.proofs.lemmas.Bool.{false≢true}
 use Rattle.std.proofs.lemmas.List.{get_or_past}
 use Rattle.std.proofs.lemmas.Option.{same_Some}
 use Rattle.nt_design.specs.Parts.{Value}
@@ -15,7 +15,7 @@ use Rattle.nt_design.specs.declared.process.Assign.{Assign}
 use Rattle.nt_design.specs.declared.put.Put.{Put}
 use Rattle.nt_design.specs.declared.target.Target.{Target}
 use Rattle.nt_design.specs.declared.target.Target.TheVariants as target
-use Rattle.nt_semantics.proofs.Waking.{column_at, column_past, lt_or_le, none_some, of_some, of_test, of_turns}
+use Rattle.nt_semantics.proofs.Waking.{column_at, lt_or_le, none_some, of_some, of_test, of_turns}
 use Rattle.nt_semantics.specs.Execution.{steps}
 use Rattle.nt_semantics.specs.Laws.{without}
 use Rattle.nt_semantics.specs.Same.{is_same}

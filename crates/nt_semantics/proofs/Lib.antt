@@ -25,6 +25,7 @@ pub mod Orders
 pub mod Parts
 pub mod ProcKeeps
 pub mod RegionFitting
+pub mod RegionGoing
 pub mod RoundFitting
 pub mod RoundSteps
 pub mod Rounding

@@ -1,7 +1,7 @@
 -- What is right between rounds with one group is right after the next region and when the next slot begins, and both lead to
 -- where they say.
-use Rattle.std.specs.Prelude.{◌↔◌, Contains, All, nat_le, IfSome}
-use Rattle.std.proofs.Common.{◌≡◌, inl, inr, ℕ, zero, suc, ◌+◌, ◌<◌, ◌≤◌, ◌==◌, nat_lt, Bool, true, false, not, ◌&&◌, ◌||◌, if◌then◌else◌, ◌^◌, List, [], ◌∷◌, ◌++◌, length, map, filter, get_or, is_some, Option, Some, None, option_and_then, refl, sym, ◌∙◌, ap, subst, arith}
+use Rattle.std.specs.Prelude.{nat_le}
+use Rattle.std.proofs.Common.{◌≡◌, inl, inr, ℕ, ◌<◌, ◌≤◌, ◌==◌, Bool, true, false, not, ◌&&◌, if◌then◌else◌, ◌^◌, List, [], ◌∷◌, length, map, filter, Option, Some, None, option_and_then, refl, sym, ◌∙◌, ap, subst, arith}
 use Rattle.std.specs.List.{list_any}
 use Rattle.std.proofs.lemmas.Bool.{false≢true, eqb-true, eq-eqb, leb-true}
 use Rattle.std.proofs.lemmas.List.{get_or_past}
@@ -17,10 +17,9 @@ use Rattle.nt_semantics.proofs.Waking.{lt_or_le, none_some}
 use Rattle.nt_semantics.specs.Execution.{active_standing, activate, begin_next, begin_slot, has_inactive, if_some, is_inactive, move_updates, next_moment, standing_in_slot, steps}
 use Rattle.nt_semantics.specs.Groups.{processes, is_among}
 use Rattle.nt_semantics.specs.Laws.{RegionKeepsFits, SlotKeepsFits}
-use Rattle.nt_semantics.specs.ReadyLists.{Holds, RoundFits, Tied, UnbegunListed, has_begun, is_held, one_if, stands_listed, times}
+use Rattle.nt_semantics.specs.ReadyLists.{Holds, RoundFits, Tied, UnbegunListed, has_begun, is_held, one_if, stands_listed}
 use Rattle.nt_semantics.specs.Rounds.{RoundEnd, RoundState, after_activation, after_begin, combs, next_region, next_slot, perform, procs_at, update_round, with_new, with_woken, without_entries, woken}
 use Rattle.nt_semantics.specs.State.{MachineState, standing_at}
-use Rattle.nt_semantics.specs.StateFits.{IsStateOf}
 use Rattle.nt_semantics.specs.Step.{is_some_put, may_begin, put_var, step, update_step}
 use Rattle.nt_semantics.specs.Wake.{wake}
 use Rattle.nt_semantics.specs.declared.event.Event.TheVariants.{Update}
@@ -163,7 +162,7 @@ slot_round_fits until d r e limit fits tied h = of_finish r.state.finished h
     of_finish false g = of_moment (next_moment r.state.standings) refl g
 
 -- ---- nonblocking updates
-moved_same : (d : Design) (put : Put) (s : MachineState) → (put_var d put s).moved ≡ s.moved
+pub moved_same : (d : Design) (put : Put) (s : MachineState) → (put_var d put s).moved ≡ s.moved
 unfolding put_var wake
 moved_same d put s = refl
 

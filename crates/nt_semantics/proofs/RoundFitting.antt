@@ -1,13 +1,12 @@
 -- What is right between rounds with one group is right at the start and after a round, and a round stops only at what is too
 -- long.
 use Rattle.std.specs.Prelude.{IfSome}
-use Rattle.std.proofs.Common.{◌≡◌, inl, inr, ℕ, zero, suc, ◌+◌, ◌<◌, ◌≤◌, ◌==◌, nat_lt, Bool, true, false, not, ◌&&◌, ◌||◌, if◌then◌else◌, List, [], ◌∷◌, ◌++◌, length, map, filter, get_or, slice_get, is_some, Option, Some, None, refl, sym, ◌∙◌, ap, subst, arith}
+use Rattle.std.proofs.Common.{◌≡◌, inl, inr, ℕ, zero, suc, ◌+◌, ◌<◌, ◌≤◌, ◌==◌, nat_lt, Bool, true, false, not, ◌&&◌, if◌then◌else◌, List, [], ◌∷◌, length, map, filter, get_or, is_some, Some, None, refl, sym, ◌∙◌, ap, subst, arith}
 use Rattle.std.specs.List.{range_with_len}
-use Rattle.std.proofs.lemmas.Bool.{false≢true, eqb-true, ltb-true, lt-ltb}
+use Rattle.std.proofs.lemmas.Bool.{false≢true, ltb-true, lt-ltb}
 use Rattle.std.proofs.lemmas.List.{get_or_past, length-map}
 use Rattle.nt_design.specs.WellFormed.{IsDesign}
 use Rattle.nt_design.specs.declared.design.Design.{Design}
-use Rattle.nt_design.specs.declared.object.Net.{Net}
 use Rattle.nt_design.specs.declared.process.Proc.{Proc}
 use Rattle.nt_semantics.proofs.Begun.{is_unbegun, steps_before, unbegun_is}
 use Rattle.nt_semantics.proofs.Counting.{among_times, assign_once, chosen_once, in_range, no_assign, proc_once, times_filter, times_filter_number, times_new, times_procs}
@@ -17,19 +16,17 @@ use Rattle.nt_semantics.proofs.Listing.{phase_keeps}
 use Rattle.nt_semantics.proofs.Rounding.{OneOf, resolve_keeps}
 use Rattle.nt_semantics.proofs.RoundSteps.{round_enters, round_leads}
 use Rattle.nt_semantics.proofs.StartFitting.{start_fits}
-use Rattle.nt_semantics.proofs.StepKeeps.{steps_keep}
 use Rattle.nt_semantics.proofs.Stopping.{LongAt, nets_long, phase_long}
 use Rattle.nt_semantics.proofs.Waking.{lt_or_le}
 use Rattle.nt_semantics.specs.Execution.{IsTooLong, enter_all, expansion, steps}
 use Rattle.nt_semantics.specs.Groups.{processes, is_among, is_same_process}
 use Rattle.nt_semantics.specs.Laws.{AreOrders, RoundGoes, RoundKeepsFits, RoundsStartFit}
 use Rattle.nt_semantics.specs.ReadyLists.{AllUnbegun, Holds, RoundFits, UnbegunListed, has_begun, is_held, one_if, stands_listed, times}
-use Rattle.nt_semantics.specs.Rounds.{Ended, EvaluateEnd, Idle, PhaseEnd, Quantum, ResolveEnd, RoundState, TooLong, combs, combs_after, evaluate, first_of, is_ready, phase, quantum, resolve_after, resolve_nets, round, stands_ready, start_rounds, too_long_of, with_new, with_woken}
+use Rattle.nt_semantics.specs.Rounds.{Ended, Idle, PhaseEnd, Quantum, ResolveEnd, RoundState, TooLong, combs, combs_after, evaluate, first_of, is_ready, phase, quantum, resolve_after, resolve_nets, round, stands_ready, start_rounds, too_long_of, with_new, with_woken}
 use Rattle.nt_semantics.specs.Slots.{Went}
-use Rattle.nt_semantics.specs.State.{MachineState, count_at, is_comb, standing_at, start_state}
+use Rattle.nt_semantics.specs.State.{MachineState, is_comb, standing_at, start_state}
 use Rattle.nt_semantics.specs.StateFits.{IsStateOf}
-use Rattle.nt_semantics.specs.Step.{is_order, may_begin}
-use Rattle.nt_semantics.specs.declared.event.Event.{Event}
+use Rattle.nt_semantics.specs.Step.{may_begin}
 use Rattle.nt_semantics.specs.declared.process.Process.{Process}
 use Rattle.nt_semantics.specs.declared.process.Process.TheVariants.{Procedure, Assignment}
 use Rattle.nt_semantics.specs.declared.standing.Standing.{Standing}

@@ -1,11 +1,11 @@
 -- A round of a state with something in Active shows something.
-use Rattle.std.proofs.Common.{◌≡◌, ◌⊎◌, inl, inr, ℕ, zero, suc, ◌+◌, ◌<◌, ◌≤◌, ◌==◌, nat_lt, Bool, true, false, ◌&&◌, ◌||◌, if◌then◌else◌, List, [], ◌∷◌, ◌++◌, length, map, get_or, is_some, IsSome, Option, Some, None, refl, sym, ◌∙◌, ap, subst, arith, length-append}
+use Rattle.std.proofs.Common.{◌≡◌, ◌⊎◌, inl, inr, ℕ, zero, suc, ◌+◌, ◌<◌, ◌≤◌, ◌==◌, nat_lt, Bool, true, false, ◌&&◌, ◌||◌, if◌then◌else◌, List, [], ◌∷◌, ◌++◌, length, get_or, is_some, IsSome, Option, Some, None, refl, sym, ◌∙◌, ap, subst, arith, length-append}
 use Rattle.std.specs.List.{list_any, range_with_len}
-use Rattle.std.proofs.lemmas.Bool.{false≢true, eq-eqb, eqb-true}
+use Rattle.std.proofs.lemmas.Bool.{false≢true, eqb-true}
 use Rattle.nt_design.specs.declared.design.Design.{Design}
 use Rattle.nt_semantics.specs.Execution.{is_active, enter, if_some}
-use Rattle.nt_semantics.specs.Groups.{processes, is_among, is_same_process}
-use Rattle.nt_semantics.specs.Rounds.{Away, RoundState, ResolveEnd, PhaseEnd, TooLong, phase, quantum, evaluate, resolve_nets, resolve_after, round, is_ready, stands_ready, with_woken, woken, net_entry, with_entry, entry_of, marks_of, next_ready, away_after, and_before, stops, first_of, too_long_of}
+use Rattle.nt_semantics.specs.Groups.{processes, is_same_process}
+use Rattle.nt_semantics.specs.Rounds.{Away, RoundState, ResolveEnd, PhaseEnd, TooLong, phase, quantum, evaluate, resolve_nets, resolve_after, round, with_woken, woken, net_entry, with_entry, entry_of, marks_of, next_ready, away_after, and_before, stops, first_of, too_long_of}
 use Rattle.nt_semantics.specs.State.{MachineState, standing_at, count_at}
 use Rattle.nt_semantics.specs.declared.standing.Standing.{Standing}
 use Rattle.nt_semantics.specs.declared.standing.Standing.TheVariants.{Unbegun, Ready, Inactive, Later, Waits, Over}
@@ -16,7 +16,6 @@ use Rattle.nt_semantics.specs.declared.process.Process.{Process}
 use Rattle.nt_semantics.specs.declared.process.Process.TheVariants.{Procedure, Assignment}
 use Rattle.nt_semantics.specs.ReadyLists.{RoundFits, has_begun, is_held, one_if, stands_listed, times}
 use Rattle.nt_semantics.specs.Laws.{RoundShows}
-use Rattle.nt_semantics.proofs.Listing.{or_left, or_right, among_left, among_right}
 
 -- ---- places in lists
 any_place : {A : Type 0} (test : A → Bool) (past : A) (xs : List A) → list_any test xs ≡ true → (i : ℕ) × (i < length xs) × (test (get_or xs i past) ≡ true)

@@ -1,13 +1,11 @@
 -- Where a round stops, an event is in Active and takes too many turns.
 use Rattle.std.specs.Prelude.{⊤, IfSome}
-use Rattle.std.proofs.Common.{◌≡◌, ◌⊎◌, inl, inr, ℕ, zero, suc, ◌+◌, ◌-◌, ◌<◌, ◌≤◌, ◌==◌, nat_lt, Bool, true, false, not, ◌&&◌, ◌||◌, if◌then◌else◌, List, [], ◌∷◌, length, filter, get_or, replicate, slice_get, Option, Some, None, option_and_then, refl, sym, ◌∙◌, ap, subst, arith, get_or-set_same}
-use Rattle.std.proofs.lemmas.Bool.{false≢true, eq-eqb, eqb-true, ltb-true, lt-ltb}
+use Rattle.std.proofs.Common.{◌≡◌, inl, inr, ℕ, zero, suc, ◌+◌, ◌<◌, ◌≤◌, ◌==◌, nat_lt, Bool, true, false, not, ◌&&◌, ◌||◌, if◌then◌else◌, List, [], ◌∷◌, length, filter, replicate, slice_get, Option, Some, None, option_and_then, refl, sym, ◌∙◌, ap, arith}
+use Rattle.std.proofs.lemmas.Bool.{false≢true, ltb-true, lt-ltb}
 use Rattle.std.proofs.lemmas.List.{get_or_past}
-use Rattle.std.proofs.lemmas.Option.{same_Some}
 use Rattle.nt_design.specs.WellFormed.{IsDesign}
 use Rattle.nt_design.specs.declared.design.Design.{Design}
 use Rattle.nt_design.specs.declared.object.Net.{Net}
-use Rattle.nt_design.specs.declared.process.Proc.{Proc}
 use Rattle.nt_semantics.proofs.Again.{again}
 use Rattle.nt_semantics.proofs.Counting.{same_self}
 use Rattle.nt_semantics.proofs.Holding.{Kept, count_there, kept_next, kept_published}
@@ -20,7 +18,7 @@ use Rattle.nt_semantics.specs.Groups.{processes, is_among, is_same_process}
 use Rattle.nt_semantics.specs.Laws.{without}
 use Rattle.nt_semantics.specs.ReadyLists.{is_held, one_if, stands_listed, times}
 use Rattle.nt_semantics.specs.Rounds.{Away, Ended, Idle, PhaseEnd, Quantum, ResolveEnd, TooLong, and_before, away_after, entry_of, marks_of, net_entry, next_ready, phase, resolve_nets, stops, with_entry, with_new, with_woken, woken}
-use Rattle.nt_semantics.specs.State.{MachineState, count_at, fewer, standing_at, work_at}
+use Rattle.nt_semantics.specs.State.{MachineState, count_at, standing_at, work_at}
 use Rattle.nt_semantics.specs.StateFits.{HasWork, IsStateOf, StandingFits}
 use Rattle.nt_semantics.specs.Step.{copies_of, is_order, is_order_of, is_pending, is_pending_at, is_some_work, may_begin, only_if, step}
 use Rattle.nt_semantics.specs.declared.event.Event.{Event}
@@ -30,7 +28,6 @@ use Rattle.nt_semantics.specs.declared.process.Process.TheVariants.{Procedure, A
 use Rattle.nt_semantics.specs.declared.standing.Standing.{Standing}
 use Rattle.nt_semantics.specs.declared.standing.Standing.TheVariants.{Unbegun, Ready, Inactive, Later, Waits, Over}
 use Rattle.nt_semantics.specs.declared.work.Work.{Work}
-use Rattle.nt_semantics.specs.declared.work.Work.TheVariants.{Do, Testing, Stepping, Repeating, Counting, Each, Awaiting}
 
 -- ---- copies in a row
 -- where one copy is allowed, all that there are may follow
@@ -150,8 +147,7 @@ long_here d b s x xs design kept none = of_process x held none
     of_process (Procedure p) held h =
         let low = listed_there s b p held in
         let proc = there_is d.procs p (omega (arith, low, kept.fits.standings)) in
-        let of = kept.fits.procs p proc.0 proc.1 in
-        (
+        let of = kept.fits.procs p proc.0 proc.1 in (
           both_true (is_pending_at s (standing_at s p)) (is_some_work (work_at s p)) (pending_there s b (standing_at s p) kept.begins held) (work_there s b (work_at s p) (standing_at s p) of.standing held),
           none_alone d (Stmt p) s h,
         )
@@ -187,8 +183,7 @@ pub net_long : (d : Design) (b : Bool) (n : ℕ) (order : List ℕ) (s : Machine
 unfolding is_pending
 net_long d b n order s xs design kept ordered some h =
     let low = count_there s.resolutions n pending in
-    let net = there_is d.nets n (omega (arith, low, kept.fits.resolutions)) in
-    (
+    let net = there_is d.nets n (omega (arith, low, kept.fits.resolutions)) in (
       both_true (nat_lt 0 (count_at s.resolutions n)) (is_order_of (slice_get d.nets n) order) pending (ap (λ o. is_order_of o order) net.1 ∙ ordered net.0 net.1),
       none_of d (Resolve n order) (count_at s.resolutions n) s design kept.fits refl (ltb-true 0 (count_at s.resolutions n) pending) (omega arith) h,
     )

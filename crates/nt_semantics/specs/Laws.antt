@@ -8,12 +8,12 @@ use Rattle.nt_design.specs.declared.object.Net.{Net}
 use Rattle.nt_semantics.specs.Execution.{Execution, enter_all, is_active, is_over, move, may_repeat, steps, run, expansion, ended, followed, seen}
 use Rattle.nt_semantics.specs.ReadyLists.{IsOther, Listed, OneListed, RoundFits, Shows, StandsOn, Tied}
 use Rattle.nt_semantics.specs.Groups.{processes}
-use Rattle.nt_semantics.specs.Rounds.{Away, RoundState, phase, round, RoundEnd, next_region, next_slot, start_rounds}
+use Rattle.nt_semantics.specs.Rounds.{Away, RoundState, arrival, declared_order, phase, round, RoundEnd, next_region, next_slot, none_away, start_rounds}
 use Rattle.nt_semantics.specs.declared.process.Process.{Process}
 use Rattle.nt_semantics.specs.Slots.{Few, Went}
 use Rattle.nt_semantics.specs.State.{MachineState, start_state, standing_at, fewer}
 use Rattle.nt_semantics.specs.StateFits.{IsStateOf}
-use Rattle.nt_semantics.specs.Step.{step, is_pending, is_order, copies_of}
+use Rattle.nt_semantics.specs.Step.{step, all_below, is_pending, is_order, copies_of}
 use Rattle.nt_semantics.specs.Texts.{IsWritten, witness_text}
 use Rattle.nt_semantics.specs.declared.event.Entry.{Entry}
 use Rattle.nt_semantics.specs.declared.event.Event.{Event}
@@ -118,6 +118,14 @@ RoundsStartFit = (d : Design) → IsDesign d → RoundFits d (start_rounds d (pr
 abbrev pub AreOrders : Design → (ℕ → List ℕ) → Type 0
 AreOrders d orders = (n : ℕ) (net : Net) → slice_get d.nets n ≡ Some net → is_order (length net.slots) (orders n) ≡ true
 
+abbrev pub DeclaredAreOrders : Type 0
+DeclaredAreOrders = (d : Design) → AreOrders d (declared_order d)
+
+-- so is what the marks of a net's slots give
+abbrev pub ArrivalsAreOrders : Type 0
+ArrivalsAreOrders =
+    (d : Design) (n : ℕ) (net : Net) (slots : List ℕ) → slice_get d.nets n ≡ Some net → all_below (length net.slots) slots ≡ true → is_order (length net.slots) (arrival d n slots) ≡ true
+
 -- the entries of a round with one group lead within a slot from its start to its end, and what stops it is too long there
 abbrev pub RoundGoes : Type 0
 RoundGoes =
@@ -131,6 +139,20 @@ RegionKeepsFits =
 abbrev pub SlotKeepsFits : Type 0
 SlotKeepsFits =
     (until : ℕ) (d : Design) (r : RoundState) (e : RoundEnd) → until ≤ 2 ^ 48 → RoundFits d r → Tied r.state r.away → next_slot until (processes d ∷ []) r ≡ Some e → RoundFits d e.after
+
+-- the next region leads within a slot to where it says
+abbrev pub RegionGoes : Type 0
+RegionGoes =
+    (d : Design) (r : RoundState) (e : RoundEnd) → RoundFits d r → is_active r.state ≡ false → next_region d (processes d ∷ []) r ≡ Some e → Went d r.state e.entries e.too_long e.after.state
+
+-- the next slot begins by the one move of a slot that is over
+abbrev pub SlotGoes : Type 0
+SlotGoes =
+    (until : ℕ) (groups : List (List Process)) (r : RoundState) (e : RoundEnd) → is_over r.state ≡ true → next_slot until groups r ≡ Some e → (e.entries ≡ []) × ((e.too_long ≡ None) × (move until r.state ≡ Some e.after.state))
+
+-- at the start no procedure was put away
+abbrev pub RoundsStartTied : Type 0
+RoundsStartTied = (d : Design) → Tied (start_state d) none_away
 
 -- rounds keep the procedures that were put away on their lists, and so do the next region and the next slot
 abbrev pub RoundKeepsTied : Type 0
