@@ -1,0 +1,4 @@
+pub mod Turns
+pub mod GroupLaws
+pub mod Sound
+pub mod Complete

@@ -1,0 +1,5 @@
+pub mod Tables
+pub mod Groups
+pub mod Types
+pub mod Reader
+pub mod Nests
