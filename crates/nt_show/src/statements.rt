@@ -43,13 +43,7 @@ fn say_body(body: &Boxed<Stmt>, out: &mut Saying) {
     out.put(b")");
 }
 
-fn say_pair(
-    at: Place,
-    left: &Expr,
-    mark: &[u8],
-    right: &Expr,
-    out: &mut Saying,
-) {
+fn say_pair(at: Place, left: &Expr, mark: &[u8], right: &Expr, out: &mut Saying) {
     begin(at, b"(", out);
     say_expr(left, out);
     out.put(mark);
