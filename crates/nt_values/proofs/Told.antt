@@ -1,5 +1,5 @@
 -- What an answer tells of a whole, from what its parts' answers tell.
-use Rattle.std.proofs.Common.{◌≡◌, ◌≤◌, ◌<◌, ℕ, suc, ◌+◌, List, [], ◌∷◌, ◌++◌, length, drop, refl, ap, sym, subst, ◌∙◌, arith, add-one, append_assoc, drop-cons}
+use Rattle.std.proofs.Common.{map, ◌≡◌, ◌≤◌, ◌<◌, ℕ, suc, ◌+◌, List, [], ◌∷◌, ◌++◌, length, drop, refl, ap, sym, subst, ◌∙◌, arith, add-one, append_assoc, drop-cons}
 use Rattle.std.specs.Prelude.{true, false, Some, None, Result, Ok, Err, get_or, slice_get}
 use Rattle.std.proofs.Math.ListN.{drop_of_length-le}
 use Rattle.std.proofs.lemmas.List.{append-nil}
@@ -8,12 +8,11 @@ use Rattle.nt_value.specs.Operators.{binary_of, one_digit}
 use Rattle.nt_value.specs.declared.digit.Digit.{Digit}
 use Rattle.nt_value.specs.declared.digit.Digit.TheVariants.{One, X, Z, Zero}
 use Rattle.nt_value.specs.declared.operator.Binary.{Binary}
-use Rattle.nt_design.specs.Expressions.{Calls, World, by_choice, by_operator, is_decided, value_of, values_of}
+use Rattle.nt_design.specs.Expressions.{by_choice, by_operator, is_decided}
 use Rattle.nt_design.specs.Parts.{Value, merged, one, only, test_of}
-use Rattle.nt_design.specs.Turns.{Timed, Timing, and_then, by_two, pick}
+use Rattle.nt_design.specs.Turns.{Timed, Timing, all_of, and_then, by_two, pick}
 use Rattle.nt_design.specs.declared.env.Stop.{Stop}
 use Rattle.nt_design.specs.declared.env.Stop.TheVariants.{TooLong, OutOfMemory}
-use Rattle.nt_design.specs.declared.tree.Tree.{Tree}
 use Rattle.nt_values.specs.Tells.{Tells}
 
 pub told_by : {A : Type 0} (most : ℕ) (m n : Timed A) (r : Result (A × ℕ) Stop) → m ≡ n → Tells most n r → Tells most m r
@@ -58,38 +57,39 @@ pub drop_item : {A : Type 0} (xs : List A) (i : ℕ) (x : A) → i < length xs �
 drop_item xs i x h e = rw (add-one, drop-cons xs i x h) (ap (λ y. y ∷ drop (suc i) xs) (sym e))
 
 -- the rest gives what is left of the whole
-abbrev pub Rest : Calls → World → List Tree → List Value → ℕ → List Value → List Tree → ℕ → Type 0
-Rest calls world trees locals left values rest turns =
-    values_of calls world trees locals left ≡ and_then (values_of calls world rest locals turns) (λ vs k. Some (values ++ vs, k))
+abbrev pub Rest : {X A : Type 0} → (X → Timing A) → List X → List Value → ℕ → List A → List X → ℕ → Type 0
+Rest f xs locals left found rest turns =
+    all_of (map f xs) locals left ≡ and_then (all_of (map f rest) locals turns) (λ vs k. Some (found ++ vs, k))
 
-pub item_stops : (calls : Calls) (world : World) (trees : List Tree) (locals : List Value) (left most : ℕ) (values : List Value) (i turns : ℕ) (t : Tree) (e : Stop) → i < length trees → t ≡ get_or trees i t → Rest calls world trees locals left values (drop i trees) turns → Tells turns (value_of calls world t locals turns) (Err e) → Tells most (values_of calls world trees locals left) (Err e)
-item_stops calls world trees locals left most values i turns t e h g so_far bad =
-    stops turns most (values_of calls world trees locals left) (values_of calls world (t ∷ drop (i + 1) trees) locals turns) (λ vs k. Some (values ++ vs, k)) e
-    (so_far ∙ ap (λ xs. and_then (values_of calls world xs locals turns) (λ vs k. Some (values ++ vs, k))) (drop_item trees i t h g))
-    (stops turns turns (values_of calls world (t ∷ drop (i + 1) trees) locals turns) (value_of calls world t locals turns) (λ x l. and_then (values_of calls world (drop (i + 1) trees) locals l) (λ xs k. Some (x ∷ xs, k))) e refl bad)
+module _ {X A : Type 0} (f : X → Timing A) (xs : List X) (locals : List Value) (left : ℕ) where
+  pub item_stops : (most : ℕ) (found : List A) (i turns : ℕ) (x : X) (e : Stop) → i < length xs → x ≡ get_or xs i x → Rest f xs locals left found (drop i xs) turns → Tells turns (f x locals turns) (Err e) → Tells most (all_of (map f xs) locals left) (Err e)
+  item_stops most found i turns x e h g so_far bad =
+      stops turns most (all_of (map f xs) locals left) (all_of (map f (x ∷ drop (i + 1) xs)) locals turns) (λ vs k. Some (found ++ vs, k)) e
+      (so_far ∙ ap (λ l. and_then (all_of (map f l) locals turns) (λ vs k. Some (found ++ vs, k))) (drop_item xs i x h g))
+      (stops turns turns (all_of (map f (x ∷ drop (i + 1) xs)) locals turns) (f x locals turns) (λ v l. and_then (all_of (map f (drop (i + 1) xs)) locals l) (λ vs k. Some (v ∷ vs, k))) e refl bad)
 
-pub item_done : (calls : Calls) (world : World) (trees : List Tree) (locals : List Value) (left : ℕ) (values : List Value) (i turns : ℕ) (t : Tree) (v : Value) (l : ℕ) → i < length trees → t ≡ get_or trees i t → Rest calls world trees locals left values (drop i trees) turns → value_of calls world t locals turns ≡ Some (v, l) → Rest calls world trees locals left (values ++ v ∷ []) (drop (i + 1) trees) l
-item_done calls world trees locals left values i turns t v l h g so_far good =
-    so_far
-    ∙ (ap (λ xs. and_then (values_of calls world xs locals turns) (λ vs k. Some (values ++ vs, k))) (drop_item trees i t h g)
-    ∙ (ap (λ m. and_then (and_then m (λ x l. and_then (values_of calls world (drop (i + 1) trees) locals l) (λ xs k. Some (x ∷ xs, k)))) (λ vs k. Some (values ++ vs, k))) good
-    ∙ moved (values_of calls world (drop (i + 1) trees) locals l)))
-  where
-    moved : (m : Timed (List Value)) → and_then (and_then m (λ xs k. Some (v ∷ xs, k))) (λ vs k. Some (values ++ vs, k)) ≡ and_then m (λ vs k. Some ((values ++ v ∷ []) ++ vs, k))
-    moved None = refl
-    moved (Some p) = ap (λ vs. Some (vs, p.1)) (sym (append_assoc values (v ∷ []) p.0))
+  pub item_done : (found : List A) (i turns : ℕ) (x : X) (v : A) (l : ℕ) → i < length xs → x ≡ get_or xs i x → Rest f xs locals left found (drop i xs) turns → f x locals turns ≡ Some (v, l) → Rest f xs locals left (found ++ v ∷ []) (drop (i + 1) xs) l
+  item_done found i turns x v l h g so_far good =
+      so_far
+      ∙ (ap (λ l. and_then (all_of (map f l) locals turns) (λ vs k. Some (found ++ vs, k))) (drop_item xs i x h g)
+      ∙ (ap (λ m. and_then (and_then m (λ v l. and_then (all_of (map f (drop (i + 1) xs)) locals l) (λ vs k. Some (v ∷ vs, k)))) (λ vs k. Some (found ++ vs, k))) good
+      ∙ moved (all_of (map f (drop (i + 1) xs)) locals l)))
+    where
+      moved : (m : Timed (List A)) → and_then (and_then m (λ vs k. Some (v ∷ vs, k))) (λ vs k. Some (found ++ vs, k)) ≡ and_then m (λ vs k. Some ((found ++ v ∷ []) ++ vs, k))
+      moved None = refl
+      moved (Some p) = ap (λ vs. Some (vs, p.1)) (sym (append_assoc found (v ∷ []) p.0))
+
+  -- after the last one
+  pub all_done : (found : List A) (i turns : ℕ) → length xs ≤ i → Rest f xs locals left found (drop i xs) turns → all_of (map f xs) locals left ≡ Some (found, turns)
+  all_done found i turns h so_far =
+      so_far
+      ∙ (ap (λ l. and_then (all_of (map f l) locals turns) (λ vs k. Some (found ++ vs, k))) (drop_of_length-le xs h)
+      ∙ ap (λ vs. Some (vs, turns)) (append-nil found))
 
 -- before the first one
-pub whole : (m : Timed (List Value)) → m ≡ and_then m (λ vs k. Some ([] ++ vs, k))
+pub whole : {A : Type 0} (m : Timed (List A)) → m ≡ and_then m (λ vs k. Some ([] ++ vs, k))
 whole None = refl
 whole (Some p) = refl
-
--- after the last one
-pub all_done : (calls : Calls) (world : World) (trees : List Tree) (locals : List Value) (left : ℕ) (values : List Value) (i turns : ℕ) → length trees ≤ i → Rest calls world trees locals left values (drop i trees) turns → values_of calls world trees locals left ≡ Some (values, turns)
-all_done calls world trees locals left values i turns h so_far =
-    so_far
-    ∙ (ap (λ xs. and_then (values_of calls world xs locals turns) (λ vs k. Some (values ++ vs, k))) (drop_of_length-le trees h)
-    ∙ ap (λ vs. Some (vs, turns)) (append-nil values))
 
 pub got : {A : Type 0} (xs : List A) (i : ℕ) (x : A) → i < length xs → x ≡ get_or xs i x → slice_get xs i ≡ Some x
 got xs i x h e = slice_get-get_or xs i x h ∙ ap (λ g. Some g) (sym e)

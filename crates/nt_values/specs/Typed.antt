@@ -6,7 +6,8 @@ use Rattle.nt_value.specs.declared.leaf.Leaf.{Leaf}
 use Rattle.nt_design.specs.Expressions.{Calls, World}
 use Rattle.nt_design.specs.Fitting.{HasShapes}
 use Rattle.nt_design.specs.Parts.{Value}
-use Rattle.nt_design.specs.Shapes.{Scope, Signature, tree_shape}
+use Rattle.nt_design.specs.Shapes.{Scope, Signature, pick_shape, tree_shape}
+use Rattle.nt_design.specs.declared.target.Pick.{Pick}
 use Rattle.nt_design.specs.declared.tree.Tree.{Tree}
 use Rattle.nt_values.specs.declared.world.World.{World as HeldWorld}
 
@@ -39,3 +40,17 @@ pub record AllTyped (signatures : List (Option Signature)) (calls : Calls) (worl
   pub scope : Scope
   pub stands : Stands signatures calls world locals scope
   pub each : (i : ℕ) (tree : Tree) → slice_get trees i ≡ Some tree → (shape : List Leaf) × (tree_shape scope tree ≡ Some shape)
+
+-- a step of a path that leads from one shape to another
+pub record Picked (signatures : List (Option Signature)) (calls : Calls) (world : World) (locals : List Value) (pick : Pick) : Type 0 where
+  pub scope : Scope
+  pub stands : Stands signatures calls world locals scope
+  pub whole : List Leaf
+  pub part : List Leaf
+  pub is : pick_shape scope pick whole ≡ Some part
+
+-- several such steps
+pub record AllPicked (signatures : List (Option Signature)) (calls : Calls) (world : World) (locals : List Value) (path : List Pick) : Type 0 where
+  pub scope : Scope
+  pub stands : Stands signatures calls world locals scope
+  pub each : (i : ℕ) (pick : Pick) → slice_get path i ≡ Some pick → (whole part : List Leaf) × (pick_shape scope pick whole ≡ Some part)

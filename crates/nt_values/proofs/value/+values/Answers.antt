@@ -252,7 +252,7 @@ values_of-value_of-requires g t c κs within =
 pub values_of-returns-in_err-value : goal.values_of-returns-in_err-value
 values_of-returns-in_err-value g t c =
     let p = err_from_is_err_and c.from_residual.result c.from_residual.ensures.1 in
-    rw (p.1, p.2) (item_stops (g.C.Caller.calls c.args.caller.now) (world_in c.args.world.now) c.args.trees.now c.args.locals.now c.args.left c.args.left c.loop-tree.values c.loop-tree.tree-index c.loop-tree.turns c.tree-item.result c.in_err-value.field-0.0 c.loop-tree-test.true c.tree-item.is c.loop-tree.invariant.so_far c.in_err-value.ensures)
+    rw (p.1, p.2) (item_stops (value_of (g.C.Caller.calls c.args.caller.now) (world_in c.args.world.now)) c.args.trees.now c.args.locals.now c.args.left c.args.left c.loop-tree.values c.loop-tree.tree-index c.loop-tree.turns c.tree-item.result c.in_err-value.field-0.0 c.loop-tree-test.true c.tree-item.is c.loop-tree.invariant.so_far c.in_err-value.ensures)
 
 pub values_of-loop-tree-preserved : goal.values_of-loop-tree-preserved
 values_of-loop-tree-preserved g t c =
@@ -260,12 +260,12 @@ values_of-loop-tree-preserved g t c =
     let more = c.in_ok-value.ensures.1 in
     record {
       fewer = omega (arith, few, more);
-      so_far = rw c.in_ok-push.ensures.ok (item_done (g.C.Caller.calls c.args.caller.now) (world_in c.args.world.now) c.args.trees.now c.args.locals.now c.args.left c.loop-tree.values c.loop-tree.tree-index c.loop-tree.turns c.tree-item.result c.in_ok-value.value c.in_ok-value.l c.loop-tree-test.true c.tree-item.is c.loop-tree.invariant.so_far c.in_ok-value.ensures.0);
+      so_far = rw c.in_ok-push.ensures.ok (item_done (value_of (g.C.Caller.calls c.args.caller.now) (world_in c.args.world.now)) c.args.trees.now c.args.locals.now c.args.left c.loop-tree.values c.loop-tree.tree-index c.loop-tree.turns c.tree-item.result c.in_ok-value.value c.in_ok-value.l c.loop-tree-test.true c.tree-item.is c.loop-tree.invariant.so_far c.in_ok-value.ensures.0);
     }
 
 pub values_of-returns : goal.values_of-returns
 values_of-returns g t c =
-    (all_done (g.C.Caller.calls c.args.caller.now) (world_in c.args.world.now) c.args.trees.now c.args.locals.now c.args.left c.loop-tree.values c.loop-tree.tree-index c.loop-tree.turns c.loop-tree-test.false c.loop-tree.invariant.so_far, c.loop-tree.invariant.fewer)
+    (all_done (value_of (g.C.Caller.calls c.args.caller.now) (world_in c.args.world.now)) c.args.trees.now c.args.locals.now c.args.left c.loop-tree.values c.loop-tree.tree-index c.loop-tree.turns c.loop-tree-test.false c.loop-tree.invariant.so_far, c.loop-tree.invariant.fewer)
 
 pub value_of-binary_value-requires : goal.value_of-binary_value-requires
 value_of-binary_value-requires g t c κs within =

@@ -1,4 +1,5 @@
 use Rattle.std.proofs.Common.{◌≤◌, ◌+◌, ◌*◌, drop}
+use Rattle.nt_design.specs.Expressions.{value_of}
 use Rattle.nt_design.specs.Sizes.{tree_size, trees_size}
 use Rattle.nt_design.specs.declared.tree.Tree.TheViews as view
 use Rattle.nt_values.proofs.Told.{Rest}
@@ -21,5 +22,5 @@ abbrev pub invariant-values_of-loop-tree : goal.invariant-values_of-loop-tree
 invariant-values_of-loop-tree g l =
     record {
       fewer : l.turns ≤ l.left;
-      so_far : Rest (g.C.Caller.calls l.caller) (world_in l.world) l.trees l.locals l.left l.values (drop l.tree-index l.trees) l.turns;
+      so_far : Rest (value_of (g.C.Caller.calls l.caller) (world_in l.world)) l.trees l.locals l.left l.values (drop l.tree-index l.trees) l.turns;
     }
