@@ -1,0 +1,5 @@
+pub mod One
+pub mod Joining
+pub mod Placing
+pub mod Walking
+pub mod Sound
