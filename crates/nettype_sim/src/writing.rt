@@ -47,6 +47,10 @@ fn print_moment(time: u64, out: &mut Text) -> Result<(), AllocError>
 }
 
 /// Adds the first slot, with all nets.
+///
+/// # Errors
+///
+/// `AllocError` alone.
 pub fn print_slot(design: &Design, state: &State, out: &mut Text) -> Result<(), AllocError>
     requires design { IsDesign design.now }
     requires plain_design { IsPlain design.now }
@@ -60,6 +64,10 @@ pub fn print_slot(design: &Design, state: &State, out: &mut Text) -> Result<(), 
 }
 
 /// Adds the end of a run to this time limit.
+///
+/// # Errors
+///
+/// `AllocError` alone.
 pub fn print_end(until: u64, out: &mut Text) -> Result<(), AllocError>
     ensures { OnOk result (out.new ≡ out.old ++ end_text until) }
 {

@@ -10,6 +10,10 @@ use sqlite_items::{Boxed, Items};
 use std::alloc::{AllocError, Global};
 
 /// An equal tree.
+///
+/// # Errors
+///
+/// `AllocError` alone.
 #[cycle(copy)]
 pub fn copy_expr(alloc: Global, expr: &Expr) -> Result<Expr, AllocError>
     ensures { IfOk result (λ e. e ≡ expr.now) }

@@ -30,6 +30,10 @@ fn copy_expr_box(alloc: Global, expr: &Expr) -> Result<Boxed<Expr>, AllocError>
 
 // A bare tree is alive at no exit: the boxes of a node are copied first.
 /// An equal tree.
+///
+/// # Errors
+///
+/// `AllocError` alone.
 #[cycle(copy_stmts)]
 pub fn copy_stmt(alloc: Global, stmt: &Stmt) -> Result<Stmt, AllocError>
     ensures { IfOk result (λ copy. copy ≡ stmt.now) }

@@ -58,6 +58,10 @@ fn copy_declared(alloc: Global, what: &Declared) -> Result<Declared, AllocError>
 }
 
 /// An equal tree.
+///
+/// # Errors
+///
+/// `AllocError` alone.
 #[cycle(copy_types)]
 pub fn copy_type(alloc: Global, kind: &TypeTree) -> Result<TypeTree, AllocError>
     ensures { IfOk result (λ copy. copy ≡ kind.now) }

@@ -85,6 +85,10 @@ pub fn constant_by<L: Lookup>(
 
 /// The leaf of a constant expression over these constants: `width_and_sign_by`, where a name that `known` lacks means nothing
 /// and is T4.
+///
+/// # Errors
+///
+/// Those of `width_and_sign_by`.
 pub fn width_and_sign(alloc: Global, expr: &Expr, known: &Constants) -> Result<Leaf, Fault>
     ensures answer { Sizes (names_in known.now) (out-Expr expr.now) result }
     ensures faultless { Faultless (names_in known.now) (out-Expr expr.now) result }
@@ -94,6 +98,10 @@ pub fn width_and_sign(alloc: Global, expr: &Expr, known: &Constants) -> Result<L
 
 /// The value of a constant expression over these constants: `constant_by`, where a name that `known` lacks means nothing and is
 /// T4.
+///
+/// # Errors
+///
+/// Those of `width_and_sign_by`.
 pub fn constant(
     alloc: Global,
     expr: &Expr,

@@ -16,7 +16,7 @@ use Rattle.nt_design.specs.Expressions.{World, Calls, value_of, values_of}
 use Rattle.nt_design.specs.Fitting.{Gives, HasShapes, Into, Leads, LocalsFit}
 use Rattle.nt_design.specs.Parts.{Value, number_in, test_of, position_of, IntoItem, IntoPart, written, int_leaf, int_value, leaves_at}
 use Rattle.nt_design.specs.Rules.{act_fits, arm_fits, bounds_fit, fits_step, return_fits}
-use Rattle.nt_design.specs.Shapes.{Scope, Shaped, tree_shape, target_shape, path_shape, pick_shape, item_shape, part_shape, on_leaf, on_shape, where_so, is_both, is_shape, is_leaf, is_width}
+use Rattle.nt_design.specs.Shapes.{Scope, Shaped, tree_shape, target_shape, path_shape, pick_shape, item_shape, part_shape, on_leaf, is_both, is_shape, is_leaf, is_width}
 use Rattle.nt_design.specs.Statements.{Doing, nothing, on_next, one_then, block, step_of, path_of, set_local, assign, after_body, iterate, loop_of, loop, repeat_of, count_of, each_of, indices_of, always, or_nothing, is_among, first_arm, set_name, return_of, act_step, does, do_all}
 use Rattle.nt_design.specs.Turns.{Timed, Timing, and_then, spend, pick, by_one}
 use Rattle.nt_design.specs.declared.act.Act.{Act}

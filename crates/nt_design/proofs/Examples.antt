@@ -7,7 +7,6 @@ use Rattle.nt_value.specs.declared.digit.Digit.TheVariants.{Zero, One, X, Z}
 use Rattle.nt_value.specs.Operators.{unsigned_leaf}
 use Rattle.nt_design.specs.Parts.{Value, one, part_at, with_part, written, position_of, item_at, number_in, int_value, concatenated, merged, IntoItem, IntoLeaves, IntoPart}
 use Rattle.nt_design.specs.Puts.{put_of}
-use Rattle.nt_design.specs.declared.put.Put.{Put}
 use Rattle.nt_design.specs.Statements.{nothing, loop, loop_of, always, repeat_of, indices_of, count_of, each_of}
 use Rattle.nt_design.specs.declared.act.Flow.TheVariants.{Next}
 

@@ -1,12 +1,11 @@
 -- Parts of values have the digits of their leaves, and so has a value after a write.
 use Rattle.std.proofs.Common.{◌≡◌, ℕ, zero, suc, ◌+◌, List, [], ◌∷◌, ◌++◌, length, map, take, drop, replicate, refl, ap, sym, ◌∙◌, arith}
-use Rattle.std.specs.Prelude.{◌&&◌, ◌*◌, All, Bool, true, false, if◌then◌else◌, Option, Some, None, get_or, ℤ, pos, negsuc}
+use Rattle.std.specs.Prelude.{◌*◌, All, Bool, true, if◌then◌else◌, Option, Some, None, get_or, ℤ, pos, negsuc}
 use Rattle.std.proofs.lemmas.Bool.{and_parts, true≢false}
 use Rattle.std.proofs.lemmas.List.{length-append, length-replicate, take-append-drop}
 use Rattle.std.proofs.lemmas.List.Elements.{All-append, All-cons, All-drop, All-head, All-tail, All-take}
-use Rattle.std.specs.List.{flat_map}
 use Rattle.nt_value.proofs.Congruence.{length-binary}
-use Rattle.nt_value.proofs.Filled.{choice_filled, concat_filled, default_filled, default_leaf_filled, in_filled, known_append, padded_long, zeros_known}
+use Rattle.nt_value.proofs.Filled.{concat_filled, default_filled, default_leaf_filled, in_filled, known_append, padded_long, zeros_known}
 use Rattle.nt_value.proofs.Words.{all_known-binary}
 use Rattle.nt_value.specs.Arithmetic.{padded}
 use Rattle.nt_value.specs.Digits.{LeafValue, IsFilled, all_known, is_known}
@@ -15,7 +14,7 @@ use Rattle.nt_value.specs.Values.{default_value, shape_of}
 use Rattle.nt_value.specs.declared.digit.Digit.{Digit}
 use Rattle.nt_value.specs.declared.digit.Digit.TheVariants.{Zero, One, X, Z}
 use Rattle.nt_value.specs.declared.leaf.Leaf.{Leaf}
-use Rattle.nt_design.specs.Parts.{Value, concatenated, digits_at, gathered, int_leaf, int_value, item_at, leaves_at, leaves_each, merged, no_leaf, one, only, over_lowest, part_at, part_by, Step, IntoItem, IntoLeaves, IntoPart, time_value, with_digits, with_leaves, with_part, with_part_by, written}
+use Rattle.nt_design.specs.Parts.{Value, concatenated, digits_at, gathered, int_leaf, int_value, item_at, leaves_at, leaves_each, one, only, over_lowest, part_at, part_by, Step, IntoItem, IntoLeaves, IntoPart, time_value, with_digits, with_leaves, with_part, with_part_by, written}
 
 -- each leaf of a value has its digits
 abbrev pub Filled : Value → Type 0

@@ -1,6 +1,6 @@
 -- What a loop and a `case` do, by one iteration or one item.
 use Rattle.std.proofs.Common.{◌≡◌, ℕ, zero, suc, List, [], ◌∷◌, map, refl}
-use Rattle.std.specs.Prelude.{Bool, true, false, if◌then◌else◌, Some, None, slice_set}
+use Rattle.std.specs.Prelude.{true, false, if◌then◌else◌, Some, None, slice_set}
 use Rattle.nt_design.specs.Expressions.{World, Calls, value_of}
 use Rattle.nt_design.specs.Parts.{Value, int_value, is_same_value, test_of}
 use Rattle.nt_design.specs.Statements.{Doing, each_of, first_arm, is_among, iterate, loop, loop_of, nothing, one_then, repeat_of}

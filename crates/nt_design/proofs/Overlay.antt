@@ -1,6 +1,6 @@
 -- Digits laid over others, by the places that they take.
-use Rattle.std.proofs.Common.{◌≡◌, ◌≤◌, ◌<◌, ℕ, zero, suc, ◌+◌, ◌-◌, List, [], ◌∷◌, ◌++◌, length, map, take, drop, replicate, refl, ap, sym, ◌∙◌, arith, inl, inr}
-use Rattle.std.specs.Prelude.{Option, Some, None, slice_get, option_map, ℤ, pos, negsuc, min, max}
+use Rattle.std.proofs.Common.{◌≡◌, ◌≤◌, ◌<◌, ℕ, zero, suc, ◌+◌, ◌-◌, List, [], ◌∷◌, ◌++◌, length, take, drop, replicate, refl, ap, sym, ◌∙◌, arith, inl, inr}
+use Rattle.std.specs.Prelude.{Option, Some, None, slice_get, ℤ, pos, negsuc, min, max}
 use Rattle.std.proofs.lemmas.Bool.{cases_lt}
 use Rattle.nt_value.specs.Arithmetic.{padded}
 use Rattle.nt_value.specs.declared.digit.Digit.{Digit}

@@ -1,29 +1,26 @@
 -- A write that was put, when it is performed, is the write through its path.
-use Rattle.std.proofs.Common.{◌≡◌, ◌≤◌, ◌<◌, ℕ, zero, suc, ◌+◌, ◌-◌, ◌*◌, ◌/◌, Bool, true, false, if◌then◌else◌, List, [], ◌∷◌, ◌++◌, length, map, take, drop, replicate, refl, ap, sym, subst, ◌∙◌, arith, inl, inr}
-use Rattle.std.specs.Prelude.{All, Option, Some, None, get_or, slice_get, option_map, ℤ, pos, negsuc, min, max, nat_lt, ◌&&◌}
-use Rattle.std.specs.List.{flat_map}
-use Rattle.std.proofs.lemmas.Bool.{and_parts, cases_lt}
+use Rattle.std.proofs.Common.{◌≡◌, ◌≤◌, ◌<◌, ℕ, zero, suc, ◌+◌, ◌-◌, ◌*◌, ◌/◌, Bool, true, false, if◌then◌else◌, List, [], ◌∷◌, ◌++◌, length, map, take, drop, refl, ap, sym, subst, ◌∙◌, arith}
+use Rattle.std.specs.Prelude.{Option, Some, None, get_or, slice_get, option_map, ℤ, pos, negsuc, min, max, nat_lt, ◌&&◌}
+use Rattle.std.proofs.lemmas.Bool.{and_parts}
 use Rattle.std.proofs.lemmas.List.{append_assoc, append-nil, drop-drop, drop-take, drop_all, length-drop, length-map, length-take-le, take-append-drop, take-take, take_all}
 use Rattle.std.proofs.lemmas.Option.{none-some, same_Some}
 use Rattle.std.proofs.Math.Nat.{div-le_self}
-use Rattle.nt_value.proofs.Filled.{in_filled}
 use Rattle.nt_value.proofs.Returns.{known_digits}
-use Rattle.nt_value.specs.Digits.{LeafValue, IsFilled, all_known}
+use Rattle.nt_value.specs.Digits.{LeafValue, IsFilled}
 use Rattle.nt_value.specs.Operators.{in_leaf, part_of, two_state, unsigned_leaf}
 use Rattle.nt_value.specs.Values.{IsValueOf, shape_of}
 use Rattle.nt_value.specs.declared.digit.Digit.{Digit}
 use Rattle.nt_value.specs.declared.digit.Digit.TheVariants.{Zero, One, X, Z}
 use Rattle.nt_value.specs.declared.leaf.Leaf.{Leaf}
-use Rattle.nt_design.proofs.Filled.{Filled, leaves_filled, only_filled, part_by_filled, part_filled, one_all}
+use Rattle.nt_design.proofs.Filled.{Filled, leaves_filled, only_filled, part_filled}
 use Rattle.nt_design.proofs.Frame.{two}
-use Rattle.nt_design.proofs.Overlay.{Places, at_place, begun, lowest, narrower_down, narrower_up, no_places, of_low, or_old, overlay, overlay_none, overlay_same, overlay_whole, part_back, part_window, passed, taken_window, window, window_ends, window_none, window_of_none, with_is}
-use Rattle.nt_design.proofs.Shaped.{false_is, is_shape_back, leaves_has, nothing_there, only_leaf, repeated, shape_back, where_so_back}
+use Rattle.nt_design.proofs.Overlay.{Places, at_place, begun, lowest, narrower_down, narrower_up, no_places, or_old, overlay, overlay_none, overlay_same, overlay_whole, part_back, part_window, passed, taken_window, window, window_ends, window_none, window_of_none, with_is}
+use Rattle.nt_design.proofs.Shaped.{false_is, leaves_has, only_leaf, repeated, where_so_back}
 use Rattle.nt_design.proofs.Writes.{item_where, written_has}
-use Rattle.nt_design.specs.Fitting.{Into, Leads}
-use Rattle.nt_design.specs.Parts.{Value, digits_at, leaves_at, leaves_each, one, only, part_at, part_by, Step, IntoItem, IntoLeaves, IntoPart, with_digits, with_leaves, with_part, with_part_by, written}
-use Rattle.nt_design.specs.Puts.{Spot, AtDigits, AtLeaves, Nowhere, after_put, digits_put, into, narrowed, nothing_put, put_at, put_in, put_of, spot_of, step_into, step_on}
+use Rattle.nt_design.specs.Fitting.{Leads}
+use Rattle.nt_design.specs.Parts.{Value, digits_at, leaves_at, leaves_each, one, only, part_at, Step, IntoItem, IntoLeaves, IntoPart, with_digits, with_leaves, with_part, written}
+use Rattle.nt_design.specs.Puts.{Spot, AtDigits, AtLeaves, Nowhere, after_put, digits_put, put_at, put_of, spot_of, step_into}
 use Rattle.nt_design.specs.Shapes.{element_shape, is_same_shape, item_shape}
-use Rattle.nt_design.specs.declared.put.Put.{Put}
 
 -- ---- leaves
 -- digits of a leaf as they are

@@ -1,9 +1,9 @@
 -- What a function gives is a value of its result's shape, and so are values outside functions those of their shapes.
 use Rattle.std.proofs.Common.{◌≡◌, ℕ, zero, suc, List, [], ◌∷◌, ◌++◌, map, length, refl, ap, sym, subst, ◌∙◌, arith}
-use Rattle.std.specs.Prelude.{All, Contains, Bool, true, false, not, ◌&&◌, if◌then◌else◌, Option, Some, None, get_or, option_map, slice_get}
+use Rattle.std.specs.Prelude.{All, Contains, Bool, true, false, not, ◌&&◌, if◌then◌else◌, Some, None, get_or, option_map, slice_get}
 use Rattle.std.proofs.lemmas.Bool.{and_parts}
 use Rattle.std.proofs.lemmas.List.{map-append}
-use Rattle.std.proofs.lemmas.List.Elements.{All-append, All-cons, Contains-append_left, Contains-append_right}
+use Rattle.std.proofs.lemmas.List.Elements.{All-append, All-cons, Contains-append_right}
 use Rattle.std.proofs.lemmas.Option.{get_or_from_slice_get}
 use Rattle.nt_value.proofs.Filled.{default_filled}
 use Rattle.nt_value.specs.Values.{AreValuesOf, IsValueOf, default_value, shape_of}
@@ -15,8 +15,8 @@ use Rattle.nt_design.proofs.Shaped.{default_has, false_is, gives_then, not_back,
 use Rattle.nt_design.specs.Expressions.{World, Calls, object_in, value_of}
 use Rattle.nt_design.specs.Fitting.{Gives, HasShapes, Leads, LocalsFit, Returns}
 use Rattle.nt_design.specs.Meaning.{calls_to, entry_of, meaning, most_turns, name_local, name_of, own_args, own_world, result_of, run, world_of}
-use Rattle.nt_design.specs.Parts.{Value, Step}
-use Rattle.nt_design.specs.Shapes.{Scope, Signature, object_shape, path_shape, signature_at, tree_shape}
+use Rattle.nt_design.specs.Parts.{Value}
+use Rattle.nt_design.specs.Shapes.{Scope, Signature, object_shape, path_shape, tree_shape}
 use Rattle.nt_design.specs.Statements.{do_all, path_of}
 use Rattle.nt_design.specs.Turns.{Timed}
 use Rattle.nt_design.specs.WellFormed.{Fits, IsDesign, IsFunction, IsOwn, MayCall, design_scope, env_scope, first_shape, function_locals, function_scope, is_own, name_shape, net_shapes, scope_with, signature_of, signatures, usable_in, var_shapes}

@@ -1,6 +1,6 @@
 -- The value of an expression is one of its shape.
 use Rattle.std.proofs.Common.{◌≡◌, ◌<◌, ◌≤◌, ℕ, zero, suc, ◌+◌, ◌*◌, ◌/◌, List, [], ◌∷◌, ◌++◌, map, length, take, drop, replicate, refl, ap, sym, subst, ◌∙◌, arith}
-use Rattle.std.specs.Prelude.{All, Bool, true, false, not, ◌&&◌, Option, Some, None, get_or, slice_get, ⊤, nat_lt, nat_le, ◌||◌, ◌-◌, ◌==◌, if◌then◌else◌, ℤ, pos, negsuc, unwrap_or}
+use Rattle.std.specs.Prelude.{All, Bool, true, false, not, ◌&&◌, Option, Some, None, get_or, ⊤, nat_lt, nat_le, ◌||◌, ◌-◌, ◌==◌, if◌then◌else◌, ℤ, pos, negsuc, unwrap_or}
 use Rattle.std.proofs.lemmas.Bool.{and_parts, ltb-true, ltb-false, eqb-true}
 use Rattle.std.proofs.lemmas.List.Elements.{All-cons, All-head, All-tail}
 use Rattle.std.proofs.lemmas.List.{drop-drop, length-map, length-take-le}

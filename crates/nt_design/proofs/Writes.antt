@@ -12,7 +12,7 @@ use Rattle.nt_value.specs.declared.leaf.Leaf.{Leaf}
 use Rattle.nt_design.proofs.Filled.{written_filled}
 use Rattle.nt_design.proofs.Frame.{two}
 use Rattle.nt_design.proofs.Shaped.{append_has, each_has, item_has, leaves_has, one_of_repeated, only_leaf, repeated, shape_back, where_so_back}
-use Rattle.nt_design.specs.Fitting.{InBounds, Into, Leads}
+use Rattle.nt_design.specs.Fitting.{Into, Leads}
 use Rattle.nt_design.specs.Parts.{Value, leaves_at, leaves_each, with_leaves, Step, IntoLeaves, IntoItem, IntoPart, part_by, with_part_by, written}
 use Rattle.nt_design.specs.Shapes.{element_shape, is_same_shape, item_shape}
 

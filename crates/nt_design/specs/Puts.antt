@@ -1,6 +1,6 @@
 -- What a write with an evaluated path puts into a variable: which leaves, or which digits of one leaf (IEEE 1800-2017,
 -- 10.4, 11.5.1).
-use Rattle.std.specs.Prelude.{◌≡◌, ◌≤◌, ℕ, zero, suc, ◌+◌, ◌-◌, ◌*◌, ◌/◌, ◌==◌, min, max, if◌then◌else◌, List, [], length, Option, Some, None, slice_get, pos, negsuc, ◌∷◌}
+use Rattle.std.specs.Prelude.{◌≡◌, ◌≤◌, ℕ, zero, suc, ◌+◌, ◌-◌, ◌*◌, ◌/◌, min, max, List, [], length, Some, None, slice_get, pos, negsuc, ◌∷◌}
 use Rattle.nt_value.specs.Digits.{LeafValue}
 use Rattle.nt_value.specs.Operators.{part_of}
 use Rattle.nt_value.specs.Values.{IsValueOf, shape_of}

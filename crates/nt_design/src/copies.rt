@@ -7,6 +7,10 @@ use sqlite_items::{Boxed, Items};
 use std::alloc::{AllocError, Global};
 
 /// An equal expression.
+///
+/// # Errors
+///
+/// `AllocError` alone.
 pub fn copy_tree(alloc: Global, tree: &Tree) -> Result<Tree, AllocError>
     ensures { IfOk result (λ t. t ≡ tree.now) }
 {

@@ -7,6 +7,10 @@ use sqlite_items::{Boxed, Items};
 use std::alloc::{AllocError, Global};
 
 /// Equal expressions.
+///
+/// # Errors
+///
+/// `AllocError` alone.
 pub fn copy_trees(alloc: Global, trees: &[Tree]) -> Result<Items<Tree>, AllocError>
     ensures { IfOk result (λ ts. ts ≡ trees.now) }
 {
@@ -59,6 +63,10 @@ fn copy_path(alloc: Global, path: &[Pick]) -> Result<Items<Pick>, AllocError>
 }
 
 /// An equal target.
+///
+/// # Errors
+///
+/// `AllocError` alone.
 pub fn copy_target(alloc: Global, target: &Target) -> Result<Target, AllocError>
     ensures { IfOk result (λ t. t ≡ target.now) }
 {
@@ -101,6 +109,10 @@ fn copy_events(alloc: Global, on: &[(Edge, Tree)]) -> Result<Items<(Edge, Tree)>
 }
 
 /// An equal statement.
+///
+/// # Errors
+///
+/// `AllocError` alone.
 pub fn copy_act(alloc: Global, act: &Act) -> Result<Act, AllocError>
     ensures { IfOk result (λ a. a ≡ act.now) }
 {

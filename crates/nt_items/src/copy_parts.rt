@@ -53,7 +53,8 @@ pub(crate) fn copy_type_box(
     Boxed::new(alloc, copy_type(alloc, kind.get())?)
 }
 
-pub(crate) fn copy_kind(
+/// An equal type, where there is one.
+pub fn copy_kind(
     alloc: Global,
     kind: &Option<Boxed<TypeTree>>,
 ) -> Result<Option<Boxed<TypeTree>>, AllocError>
@@ -186,7 +187,8 @@ fn copy_value(alloc: Global, value: &Option<Boxed<Expr>>) -> Result<Option<Boxed
     }
 }
 
-pub(crate) fn copy_conns(alloc: Global, conns: &Items<Conn>) -> Result<Items<Conn>, AllocError>
+/// Equal connections.
+pub fn copy_conns(alloc: Global, conns: &Items<Conn>) -> Result<Items<Conn>, AllocError>
     ensures { IfOk result (λ copy. copy ≡ conns.now) }
 {
     let mut all = Items::new(alloc);

@@ -128,7 +128,7 @@ pub struct Port {
 }
 
 /// A connection of a port or a parameter (IEEE 1800-2017, 23.3.2): by order, or by name. It stands at its expression, one by name at
-/// its `.`, and an empty one by order at what follows it. Without a value it is left open.
+/// its `.`, and an empty one by order at the comma or bracket before it. Without a value it is left open.
 #[derive(Drop)]
 pub struct Conn {
     pub at: Place,

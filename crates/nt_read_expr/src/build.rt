@@ -62,6 +62,10 @@ pub(crate) fn choose_tree(
 }
 
 /// The tree of an operator and its two operands.
+///
+/// # Errors
+///
+/// `AllocError` alone.
 pub fn binary_tree(
     alloc: Global,
     at: Place,

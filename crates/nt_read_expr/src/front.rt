@@ -53,6 +53,10 @@ pub fn is_at(mark: Mark, tokens: &[Token]) -> bool
 }
 
 /// What follows this mark, where it stands first.
+///
+/// # Errors
+///
+/// `Stop::Refused` where that does not stand there, and `Stop::Memory` where memory ran out.
 #[tactic(auto, unfolding(crate::specs::Reader::expect))]
 pub fn expect(mark: Mark, tokens: &[Token]) -> Result<&[Token], Stop>
     ensures { Gives (λ x. x.now) result (spec.expect mark tokens.now) }
@@ -190,6 +194,10 @@ fn is_member(free: bool, name: &Name) -> bool
 }
 
 /// The name that stands first.
+///
+/// # Errors
+///
+/// `Stop::Refused` where that does not stand there, and `Stop::Memory` where memory ran out.
 #[tactic(auto, unfolding(crate::specs::Reader::name_first))]
 pub fn name_first(alloc: Global, tokens: &[Token]) -> Result<Name, Stop>
     ensures value { Gives (λ n. n) result (spec.name_first tokens.now) }
@@ -291,6 +299,10 @@ pub(crate) fn past_parens(tokens: &[Token]) -> &[Token]
 }
 
 /// A reference whose first name was taken.
+///
+/// # Errors
+///
+/// `Stop::Refused` where that does not stand there, and `Stop::Memory` where memory ran out.
 #[tactic(auto, unfolding(crate::specs::Reader::reference))]
 pub fn reference<'a>(
     alloc: Global,

@@ -109,63 +109,36 @@ atom_no_vector _ word e = absurd cc
 abbrev pub Elsewhere : {A : Type 0} → (TokenKind → A) → A → Type 0
 Elsewhere f a = ((kind : TokenKind) (word : IntWord) → vector_of kind ≡ Some word → f kind ≡ a) × ((kind : TokenKind) (word : IntWord) → atom_of kind ≡ Some word → f kind ≡ a)
 
-no_struct_words : Elsewhere (is_word_kind w.Struct) false
-no_struct_words = (no_vector, no_atom)
+pub elsewhere : {A : Type 0} (f : TokenKind → A) (a : A) → f (k.Word w.Logic) ≡ a → f (k.Word w.Reg) ≡ a → f (k.Word w.Bit) ≡ a → f (k.Word w.Byte) ≡ a → f (k.Word w.Shortint) ≡ a → f (k.Word w.Int) ≡ a → f (k.Word w.Longint) ≡ a
+    → f (k.Word w.Integer) ≡ a → f (k.Word w.Time) ≡ a → Elsewhere f a
+elsewhere f a e1 e2 e3 e4 e5 e6 e7 e8 e9 = (vectors, atoms)
   where
-    no_vector : (kind : TokenKind) (word : IntWord) → vector_of kind ≡ Some word → is_word_kind w.Struct kind ≡ false
-    no_vector (k.Word w.Logic) word e = refl
-    no_vector (k.Word w.Reg) word e = refl
-    no_vector (k.Word w.Bit) word e = refl
-    no_vector _ word e = absurd cc
+    vectors : (kind : TokenKind) (word : IntWord) → vector_of kind ≡ Some word → f kind ≡ a
+    vectors (k.Word w.Logic) word e = e1
+    vectors (k.Word w.Reg) word e = e2
+    vectors (k.Word w.Bit) word e = e3
+    vectors _ word e = absurd cc
 
-    no_atom : (kind : TokenKind) (word : IntWord) → atom_of kind ≡ Some word → is_word_kind w.Struct kind ≡ false
-    no_atom (k.Word w.Byte) word e = refl
-    no_atom (k.Word w.Shortint) word e = refl
-    no_atom (k.Word w.Int) word e = refl
-    no_atom (k.Word w.Longint) word e = refl
-    no_atom (k.Word w.Integer) word e = refl
-    no_atom (k.Word w.Time) word e = refl
-    no_atom _ word e = absurd cc
+    atoms : (kind : TokenKind) (word : IntWord) → atom_of kind ≡ Some word → f kind ≡ a
+    atoms (k.Word w.Byte) word e = e4
+    atoms (k.Word w.Shortint) word e = e5
+    atoms (k.Word w.Int) word e = e6
+    atoms (k.Word w.Longint) word e = e7
+    atoms (k.Word w.Integer) word e = e8
+    atoms (k.Word w.Time) word e = e9
+    atoms _ word e = absurd cc
+
+no_struct_words : Elsewhere (is_word_kind w.Struct) false
+no_struct_words = elsewhere (is_word_kind w.Struct) false refl refl refl refl refl refl refl refl refl
 
 no_sign_words : Elsewhere sign_of None
-no_sign_words = (no_vector, no_atom)
-  where
-    no_vector : (kind : TokenKind) (word : IntWord) → vector_of kind ≡ Some word → sign_of kind ≡ None
-    no_vector (k.Word w.Logic) word e = refl
-    no_vector (k.Word w.Reg) word e = refl
-    no_vector (k.Word w.Bit) word e = refl
-    no_vector _ word e = absurd cc
-
-    no_atom : (kind : TokenKind) (word : IntWord) → atom_of kind ≡ Some word → sign_of kind ≡ None
-    no_atom (k.Word w.Byte) word e = refl
-    no_atom (k.Word w.Shortint) word e = refl
-    no_atom (k.Word w.Int) word e = refl
-    no_atom (k.Word w.Longint) word e = refl
-    no_atom (k.Word w.Integer) word e = refl
-    no_atom (k.Word w.Time) word e = refl
-    no_atom _ word e = absurd cc
+no_sign_words = elsewhere sign_of None refl refl refl refl refl refl refl refl refl
 
 no_bracket_words : Elsewhere (is_kind m.LeftBracket) false
-no_bracket_words = (no_vector, no_atom)
-  where
-    no_vector : (kind : TokenKind) (word : IntWord) → vector_of kind ≡ Some word → is_kind m.LeftBracket kind ≡ false
-    no_vector (k.Word _) word e = refl
-    no_vector _ word e = absurd cc
-
-    no_atom : (kind : TokenKind) (word : IntWord) → atom_of kind ≡ Some word → is_kind m.LeftBracket kind ≡ false
-    no_atom (k.Word _) word e = refl
-    no_atom _ word e = absurd cc
+no_bracket_words = elsewhere (is_kind m.LeftBracket) false refl refl refl refl refl refl refl refl refl
 
 no_name_words : Elsewhere (λ kind. x.is_some (x.name_kind kind)) false
-no_name_words = (no_vector, no_atom)
-  where
-    no_vector : (kind : TokenKind) (word : IntWord) → vector_of kind ≡ Some word → x.is_some (x.name_kind kind) ≡ false
-    no_vector (k.Word _) word e = refl
-    no_vector _ word e = absurd cc
-
-    no_atom : (kind : TokenKind) (word : IntWord) → atom_of kind ≡ Some word → x.is_some (x.name_kind kind) ≡ false
-    no_atom (k.Word _) word e = refl
-    no_atom _ word e = absurd cc
+no_name_words = elsewhere (λ kind. x.is_some (x.name_kind kind)) false refl refl refl refl refl refl refl refl refl
 
 module _ (limit : ℕ) where
   range_complete : {d : ℕ} {ts : Tokens} {x : Expr × Expr} → Range limit d ts x → (rest : Tokens) → r.range limit d (ts ++ rest) ≡ Some (x, rest)
@@ -403,7 +376,7 @@ module _ (limit : ℕ) where
   type_not_bare (plain_type (known (scoped {scope = scope} p q v ep eq ev))) rest n = scoped_name p q (v ∷ rest) scope ep eq
   type_not_bare (struct_type (structure {ts = ts} s o c is_s is_o one is_c)) rest n = not_bare (s ∷ o ∷ ((ts ++ c ∷ []) ++ rest)) (word_no_name w.Struct s (o ∷ ((ts ++ c ∷ []) ++ rest)) is_s)
 
-  type_first : {A : Type 0} (f : TokenKind → A) (a : A) → Elsewhere f a → ((name : List ℕ) → f (k.Name name) ≡ a) → f (k.Word w.Struct) ≡ a → {d : ℕ} {ts : Tokens} {y : TypeTree} → TypeIs limit d ts y → (rest : Tokens)
+  pub type_first : {A : Type 0} (f : TokenKind → A) (a : A) → Elsewhere f a → ((name : List ℕ) → f (k.Name name) ≡ a) → f (k.Word w.Struct) ≡ a → {d : ℕ} {ts : Tokens} {y : TypeTree} → TypeIs limit d ts y → (rest : Tokens)
       → f (first (ts ++ rest)) ≡ a
   type_first f a e g h (plain_type one) rest = plain_kind f a e g one rest
   type_first f a e g h (struct_type (structure s o c is_s is_o one is_c)) rest = ap f is_s ∙ h
@@ -443,3 +416,16 @@ module _ (limit : ℕ) where
       rw (not_bare (v ∷ (ts ++ rest)) (sign_no_name v (ts ++ rest) s is), sign_no_bracket v (ts ++ rest) s is, is, maybe_range_complete one rest (name_no_mark m.LeftBracket b.first_one)) refl
   maybe_type_complete (only_range {ts = ts} {r = g} one) rest b =
       rw (not_bare (ts ++ rest) (range_no_name one rest), range_first one rest, range_complete one rest) (ap (λ at. Some (Some (t.Integral at int.Logic None (Some g)), rest)) (range_start one rest))
+
+  -- what stands first in such a type and before a name
+  pub maybe_type_first : {A : Type 0} (f : TokenKind → A) (a : A) → Elsewhere f a → ((name : List ℕ) → f (k.Name name) ≡ a) → f (k.Word w.Struct) ≡ a → f (k.Word w.Signed) ≡ a → f (k.Word w.Unsigned) ≡ a → f (k.Mark m.LeftBracket) ≡ a
+      → {d : ℕ} {ts : Tokens} {y : Option TypeTree} → MaybeType limit d ts y → (rest : Tokens) → NameFirst rest → f (first (ts ++ rest)) ≡ a
+  maybe_type_first f a e g h i j l no_type rest n = name_kind f n ∙ g n.name
+  maybe_type_first f a e g h i j l (some_type one) rest n = type_first f a e g h one rest
+  maybe_type_first f a e g h i j l (only_sign {s = s} v is one) rest n = by v.kind is
+    where
+      by : (kind : TokenKind) → sign_of kind ≡ Some s → f kind ≡ a
+      by (k.Word w.Signed) q = i
+      by (k.Word w.Unsigned) q = j
+      by _ q = absurd cc
+  maybe_type_first f a e g h i j l (only_range (range o q c is_o x_is is_q y_is is_c)) rest n = ap f is_o ∙ l

@@ -21,7 +21,7 @@ use Rattle.nt_semantics.specs.declared.event.Entry.{Entry}
 use Rattle.nt_semantics.specs.declared.event.Event.{Event}
 
 -- steps of active states need no move
-runs_here : (d : Design) (es : List Event) (s t : MachineState) → steps d es s ≡ Some t → run_here d es s ≡ Some t
+pub runs_here : (d : Design) (es : List Event) (s t : MachineState) → steps d es s ≡ Some t → run_here d es s ≡ Some t
 runs_here d [] s t h = h
 runs_here d (e ∷ es) s t h = of_step (λ u g. runs_here d es u t g) (step d s e) refl h
   where
@@ -76,5 +76,5 @@ entries_go d entries s t design of h =
       counted = x.counted;
       long = tt;
       moment = x.moment;
-      grows = x.grows;
+      grows = λ most some few. x.grows most few;
     }

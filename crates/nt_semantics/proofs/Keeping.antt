@@ -169,7 +169,7 @@ arrived_fits before m items (Later at) low h = of_test (at == m) refl
         let differs : at ≡ m → ⊥ = λ q. true_not (sym e ∙ eq-eqb at m q) in
         (h.0, (elim (cases_lt m at) [ inl below ↦ below | inr above ↦ absurd (differs (omega (arith, far, above))) ], h.1.1))
 
-activate_fits : (d : Design) (s : MachineState) → IsStateOf d s → IsStateOf d (activate s)
+pub activate_fits : (d : Design) (s : MachineState) → IsStateOf d s → IsStateOf d (activate s)
 activate_fits d s is = record {
   moment = is.moment;
   vars = is.vars;
@@ -187,7 +187,7 @@ activate_fits d s is = record {
   moved = is.moved;
 }
 
-updates_fit : (d : Design) (s : MachineState) → IsStateOf d s → IsStateOf d (move_updates s)
+pub updates_fit : (d : Design) (s : MachineState) → IsStateOf d s → IsStateOf d (move_updates s)
 updates_fit d s is = record {
   moment = is.moment;
   vars = is.vars;
@@ -205,7 +205,7 @@ updates_fit d s is = record {
   moved = is.nonblocking;
 }
 
-slot_fits : (d : Design) (s : MachineState) (m : ℕ) → m ≤ 2 ^ 48 → IsStateOf d s → next_moment s.standings ≡ Some m → IsStateOf d (begin_slot m s)
+pub slot_fits : (d : Design) (s : MachineState) (m : ℕ) → m ≤ 2 ^ 48 → IsStateOf d s → next_moment s.standings ≡ Some m → IsStateOf d (begin_slot m s)
 slot_fits d s m few is next = record {
   moment = few;
   vars = is.vars;

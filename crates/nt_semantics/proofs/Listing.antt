@@ -30,7 +30,7 @@ or_right true b h = refl
 or_right false b h = h
 
 -- ---- lists of processes
-same_is : (x y : Process) → is_same_process x y ≡ true → x ≡ y
+pub same_is : (x y : Process) → is_same_process x y ≡ true → x ≡ y
 same_is (Procedure p) (Procedure q) h = ap (λ n. Procedure n) (eqb-true p q h)
 same_is (Assignment a) (Assignment b) h = ap (λ n. Assignment n) (eqb-true a b h)
 same_is (Procedure p) (Assignment a) h = absurd (false≢true h)

@@ -1,15 +1,17 @@
 -- The orders of n slots are the permutations of the numbers below n.
-use Rattle.std.proofs.Common.{◌≡◌, ℕ, zero, suc, ◌+◌, ◌<◌, ◌≤◌, Bool, true, false, not, ◌&&◌, ◌==◌, nat_lt, if◌then◌else◌, List, [], ◌∷◌, ◌++◌, length, refl, sym, ◌∙◌, ap, subst, arith, lt-ltb, ltb-true, inl, inr}
+use Rattle.std.proofs.Common.{◌≡◌, ℕ, zero, suc, ◌+◌, ◌<◌, ◌≤◌, Bool, true, false, not, ◌&&◌, ◌||◌, ◌==◌, nat_lt, if◌then◌else◌, List, [], ◌∷◌, ◌++◌, length, map, filter, get_or, slice_get, Option, Some, None, refl, sym, ◌∙◌, ap, subst, arith, lt-ltb, ltb-true, inl, inr}
 use Rattle.std.specs.List.{range_with_len, sum_by}
 use Rattle.std.specs.List.Sorted.{IsPermutation}
 use Rattle.std.proofs.lemmas.Bool.{eq-eqb, eqb-true, cases_lt, cases_eq, and_parts, and_from, or_parts, or_from, not-true}
 use Rattle.std.proofs.lemmas.Bool.Decides.{eqb_tells}
 use Rattle.std.proofs.lemmas.List.FromFn.{length-range_with_len}
-use Rattle.std.proofs.lemmas.List.Sums.{sum_by-cons}
+use Rattle.std.proofs.lemmas.List.Sums.{sum_by-append, sum_by-cons}
 use Rattle.std.proofs.lemmas.List.Sorted.{IsPermutation-refl, IsPermutation-sym, IsPermutation-cons, IsPermutation-trans, IsPermutation-to_front, IsPermutation-middle, length_permutation, sum_by-IsPermutation}
 use Rattle.nt_semantics.specs.Step.{is_distinct, all_below, is_order}
 use Rattle.nt_semantics.specs.Same.{is_listed}
-use Rattle.nt_semantics.specs.Laws.{OrdersArePermutations}
+use Rattle.nt_design.specs.declared.object.Net.{Net}
+use Rattle.nt_semantics.specs.Rounds.{arrival, declared_order, last_of_each}
+use Rattle.nt_semantics.specs.Laws.{ArrivalsAreOrders, DeclaredAreOrders, OrdersArePermutations}
 
 abbrev hit : ℕ → ℕ → ℕ
 hit k x = if k == x then 1 else 0
@@ -173,3 +175,145 @@ orders n order = (there, back)
         let same : (k : ℕ) → count k order ≡ count k (range_with_len 0 n) = λ k. sum_by-IsPermutation (hit k) (range_with_len 0 n) order p in
         let long : length order ≡ n = length_permutation (range_with_len 0 n) order p ∙ length-range_with_len 0 n in
         and_from ((length order == n) && all_below n order) (is_distinct order) (and_from (length order == n) (all_below n order) (eq-eqb (length order) n long) (counts_below n order (λ k high. same k ∙ range_high 0 n k (omega (arith, high))))) (counts_distinct order (λ k. subst (λ j. j ≤ 1) (sym (same k)) (range_once 0 n k)))
+
+-- ---- declared and arrival orders
+covers : (n : ℕ) (xs : List ℕ) → ((k : ℕ) → k < n → 1 ≤ count k xs) → n ≤ length xs
+covers zero xs h = omega arith
+covers (suc n) xs h =
+    let f = fronted n xs (h n (omega arith)) in
+    let rest = covers n f.0 (λ k low. left f k low) in
+    omega (arith, rest, length_permutation xs (n ∷ f.0) f.1)
+  where
+    left : (f : (rest : List ℕ) × IsPermutation xs (n ∷ rest)) (k : ℕ) → k < n → 1 ≤ count k f.0
+    left f k low = elim (eqb_tells k n) [
+      | inl q ↦ absurd (omega (arith, q.1, low))
+      | inr q ↦ omega (arith, rest_counts k n xs f.0 f.1, hit_other k n q.0, h k (omega (arith, low)))
+    ]
+
+-- each number below n stands once, and no other
+pub order_by_counts : (n : ℕ) (xs : List ℕ) → ((k : ℕ) → k < n → count k xs ≡ 1) → ((k : ℕ) → n ≤ k → count k xs ≡ 0) → is_order n xs ≡ true
+order_by_counts n xs once below =
+    and_from ((length xs == n) && all_below n xs) (is_distinct xs) (and_from (length xs == n) (all_below n xs) (eq-eqb (length xs) n long) (counts_below n xs below)) (counts_distinct xs distinct)
+  where
+    distinct : (k : ℕ) → count k xs ≤ 1
+    distinct k = elim (cases_lt k n) [
+      | inl low ↦ omega (arith, once k low)
+      | inr high ↦ omega (arith, below k high)
+    ]
+
+    long : length xs ≡ n
+    long = omega (arith, few n xs distinct below, covers n xs (λ k low. omega (arith, once k low)))
+
+range_in : (a n k : ℕ) → a ≤ k → k < a + n → count k (range_with_len a n) ≡ 1
+range_in a zero k low high = absurd (omega (arith, low, high))
+range_in a (suc n) k low high = elim (eqb_tells k a) [
+  | inl q ↦ omega (arith, count_cons k a (range_with_len (a + 1) n), hit_same k a q.1, range_low (a + 1) n k (omega (arith, q.1)))
+  | inr q ↦ omega (arith, count_cons k a (range_with_len (a + 1) n), hit_other k a q.0, range_in (a + 1) n k (apart (λ e. true_false (sym (eq-eqb k a e) ∙ q.0))) (omega (arith, high)))
+]
+  where
+    true_false : true ≡ false → ⊥
+    true_false h = cc
+
+    apart : (k ≡ a → ⊥) → a + 1 ≤ k
+    apart ne = omega (arith, low, ne)
+
+count_append : (k : ℕ) (xs ys : List ℕ) → count k (xs ++ ys) ≡ count k xs + count k ys
+count_append k xs ys = sum_by-append (hit k) xs ys
+
+-- what isn't on a list, by counts
+count_others : (k : ℕ) (slots xs : List ℕ) → count k (filter (λ slot. not (is_listed slot slots)) xs) ≡ (if is_listed k slots then 0 else count k xs)
+count_others k slots [] = of_listed (is_listed k slots)
+  where
+    of_listed : (b : Bool) → count k [] ≡ (if b then 0 else count k [])
+    of_listed true = refl
+    of_listed false = refl
+count_others k slots (x ∷ xs) = of_kept (count_others k slots xs) (is_listed x slots) refl
+  where
+    of_kept : count k (filter (λ slot. not (is_listed slot slots)) xs) ≡ (if is_listed k slots then 0 else count k xs) → (b : Bool) → is_listed x slots ≡ b → count k (if not b then x ∷ filter (λ slot. not (is_listed slot slots)) xs else filter (λ slot. not (is_listed slot slots)) xs) ≡ (if is_listed k slots then 0 else count k (x ∷ xs))
+    of_kept rest true is = rest ∙ of_k (is_listed k slots) refl
+      where
+        of_k : (c : Bool) → is_listed k slots ≡ c → (if c then 0 else count k xs) ≡ (if c then 0 else count k (x ∷ xs))
+        of_k true here = refl
+        of_k false here = elim (eqb_tells k x) [
+          | inl q ↦ absurd (listed_both (sym here ∙ ap (λ j. is_listed j slots) q.1 ∙ is))
+          | inr q ↦ omega (arith, count_cons k x xs, hit_other k x q.0)
+        ]
+          where
+            listed_both : false ≡ true → ⊥
+            listed_both h = cc
+    of_kept rest false is = count_cons k x (filter (λ slot. not (is_listed slot slots)) xs) ∙ ap (λ m. hit k x + m) rest ∙ of_k (is_listed k slots) refl
+      where
+        of_k : (c : Bool) → is_listed k slots ≡ c → hit k x + (if c then 0 else count k xs) ≡ (if c then 0 else count k (x ∷ xs))
+        of_k false here = sym (count_cons k x xs)
+        of_k true here = elim (eqb_tells k x) [
+          | inl q ↦ absurd (listed_both (sym is ∙ ap (λ j. is_listed j slots) (sym q.1) ∙ here))
+          | inr q ↦ omega (arith, hit_other k x q.0)
+        ]
+          where
+            listed_both : false ≡ true → ⊥
+            listed_both h = cc
+
+-- each number of a list stands once among those that stand last
+count_last : (k : ℕ) (slots : List ℕ) → count k (last_of_each slots) ≡ (if is_listed k slots then 1 else 0)
+count_last k [] = refl
+count_last k (x ∷ slots) = of_listed (count_last k slots) (is_listed x slots) refl
+  where
+    of_listed : count k (last_of_each slots) ≡ (if is_listed k slots then 1 else 0) → (b : Bool) → is_listed x slots ≡ b → count k (if b then last_of_each slots else x ∷ last_of_each slots) ≡ (if (k == x) || is_listed k slots then 1 else 0)
+    of_listed rest true is = elim (eqb_tells k x) [
+      | inl q ↦ rest ∙ ap (λ (c : Bool). if c then 1 else 0) (ap (λ j. is_listed j slots) q.1 ∙ is) ∙ ap (λ (c : Bool). if c || is_listed k slots then 1 else 0) (sym q.0)
+      | inr q ↦ rest ∙ ap (λ (c : Bool). if c || is_listed k slots then 1 else 0) (sym q.0)
+    ]
+    of_listed rest false is = elim (eqb_tells k x) [
+      | inl q ↦ count_cons k x (last_of_each slots) ∙ omega (arith, hit_same k x q.1, rest ∙ ap (λ (c : Bool). if c then 1 else 0) (ap (λ j. is_listed j slots) q.1 ∙ is)) ∙ ap (λ (c : Bool). if c || is_listed k slots then 1 else 0) (sym q.0)
+      | inr q ↦ count_cons k x (last_of_each slots) ∙ omega (arith, hit_other k x q.0) ∙ rest ∙ ap (λ (c : Bool). if c || is_listed k slots then 1 else 0) (sym q.0)
+    ]
+
+net_slots : (nets : List Net) (n : ℕ) (net : Net) → slice_get nets n ≡ Some net → get_or (map (λ (x : Net). length x.slots) nets) n 0 ≡ length net.slots
+net_slots [] n net h = absurd (none_some net h)
+  where
+    none_some : {A : Type 0} (x : A) → None ≡ Some x → ⊥
+    none_some x h = cc
+net_slots (x ∷ nets) zero net h = ap (λ (o : Option Net). slots_in o) h
+  where
+    slots_in : Option Net → ℕ
+    slots_in None = 0
+    slots_in (Some y) = length y.slots
+net_slots (x ∷ nets) (suc n) net h = net_slots nets n net h
+
+pub declared_orders : DeclaredAreOrders
+declared_orders d n net h =
+    ap (λ m. is_order (length net.slots) (range_with_len 0 m)) (net_slots d.nets n net h) ∙ order_by_counts (length net.slots) (range_with_len 0 (length net.slots)) (λ k low. range_in 0 (length net.slots) k (omega arith) (omega (arith, low))) (λ k high. range_high 0 (length net.slots) k (omega (arith, high)))
+
+listed_below : (n : ℕ) (slots : List ℕ) (k : ℕ) → all_below n slots ≡ true → is_listed k slots ≡ true → k < n
+listed_below n [] k below h = absurd (false_true h)
+  where
+    false_true : false ≡ true → ⊥
+    false_true h = cc
+listed_below n (x ∷ slots) k below h =
+    let p = and_parts (nat_lt x n) (all_below n slots) below in
+    of_first (listed_below n slots k p.1) (k == x) refl h (ltb-true x n p.0)
+  where
+    of_first : (is_listed k slots ≡ true → k < n) → (b : Bool) → (k == x) ≡ b → (b || is_listed k slots) ≡ true → x < n → k < n
+    of_first rest true is g low = omega (arith, eqb-true k x is, low)
+    of_first rest false is g low = rest g
+
+pub arrivals_are_orders : ArrivalsAreOrders
+arrivals_are_orders d n net slots h below =
+    order_by_counts (length net.slots) (arrival d n slots) (λ k low. once k low (is_listed k slots) refl) (λ k high. none k high (is_listed k slots) refl)
+  where
+    range_is : declared_order d n ≡ range_with_len 0 (length net.slots)
+    range_is = ap (λ m. range_with_len 0 m) (net_slots d.nets n net h)
+
+    parts : (k : ℕ) (b : Bool) → is_listed k slots ≡ b → count k (arrival d n slots) ≡ (if b then 0 else count k (range_with_len 0 (length net.slots))) + (if b then 1 else 0)
+    parts k b is =
+        count_append k (filter (λ slot. not (is_listed slot slots)) (declared_order d n)) (last_of_each slots) ∙ ap (λ l. count k (filter (λ slot. not (is_listed slot slots)) l) + count k (last_of_each slots)) range_is ∙ ap (λ m. m + count k (last_of_each slots)) (count_others k slots (range_with_len 0 (length net.slots)) ∙ ap (λ (c : Bool). if c then 0 else count k (range_with_len 0 (length net.slots))) is) ∙ ap (λ m. (if b then 0 else count k (range_with_len 0 (length net.slots))) + m) (count_last k slots ∙ ap (λ (c : Bool). if c then 1 else 0) is)
+
+    once : (k : ℕ) → k < length net.slots → (b : Bool) → is_listed k slots ≡ b → count k (arrival d n slots) ≡ 1
+    once k low true is = parts k true is
+    once k low false is =
+        parts k false is ∙ omega (arith, range_in 0 (length net.slots) k (omega arith) (omega (arith, low)))
+
+    none : (k : ℕ) → length net.slots ≤ k → (b : Bool) → is_listed k slots ≡ b → count k (arrival d n slots) ≡ 0
+    none k high true is = absurd (omega (arith, high, listed_below (length net.slots) slots k below is))
+    none k high false is =
+        parts k false is ∙ omega (arith, range_high 0 (length net.slots) k (omega (arith, high)))

@@ -1,22 +1,21 @@
 -- A round of a state with something in Active shows something.
-use Rattle.std.proofs.Common.{◌≡◌, ◌⊎◌, inl, inr, ℕ, zero, suc, ◌+◌, ◌<◌, ◌≤◌, ◌==◌, nat_lt, Bool, true, false, ◌||◌, if◌then◌else◌, List, [], ◌∷◌, ◌++◌, length, map, get_or, is_some, IsSome, Option, Some, None, refl, sym, ◌∙◌, ap, subst, arith, length-append}
+use Rattle.std.proofs.Common.{◌≡◌, ◌⊎◌, inl, inr, ℕ, zero, suc, ◌+◌, ◌<◌, ◌≤◌, ◌==◌, nat_lt, Bool, true, false, ◌&&◌, ◌||◌, if◌then◌else◌, List, [], ◌∷◌, ◌++◌, length, get_or, is_some, IsSome, Option, Some, None, refl, sym, ◌∙◌, ap, subst, arith, length-append}
 use Rattle.std.specs.List.{list_any, range_with_len}
-use Rattle.std.proofs.lemmas.Bool.{false≢true, eq-eqb, eqb-true}
+use Rattle.std.proofs.lemmas.Bool.{false≢true, eqb-true}
 use Rattle.nt_design.specs.declared.design.Design.{Design}
 use Rattle.nt_semantics.specs.Execution.{is_active, enter, if_some}
-use Rattle.nt_semantics.specs.Groups.{processes, is_among}
-use Rattle.nt_semantics.specs.Rounds.{Away, RoundState, ResolveEnd, PhaseEnd, TooLong, phase, quantum, evaluate, resolve_nets, resolve_after, round, is_ready, stands_ready, with_woken, woken, net_entry, with_entry, entry_of, marks_of, next_ready, away_after, and_before, stops, first_of, too_long_of}
+use Rattle.nt_semantics.specs.Groups.{processes, is_same_process}
+use Rattle.nt_semantics.specs.Rounds.{Away, RoundState, ResolveEnd, PhaseEnd, TooLong, phase, quantum, evaluate, resolve_nets, resolve_after, round, with_woken, woken, net_entry, with_entry, entry_of, marks_of, next_ready, away_after, and_before, stops, first_of, too_long_of}
 use Rattle.nt_semantics.specs.State.{MachineState, standing_at, count_at}
 use Rattle.nt_semantics.specs.declared.standing.Standing.{Standing}
 use Rattle.nt_semantics.specs.declared.standing.Standing.TheVariants.{Unbegun, Ready, Inactive, Later, Waits, Over}
-use Rattle.nt_semantics.specs.Step.{is_pending_at, is_some_put}
+use Rattle.nt_semantics.specs.Step.{is_pending_at, is_some_put, may_begin}
 use Rattle.nt_semantics.specs.declared.event.Event.{Event}
 use Rattle.nt_semantics.specs.declared.event.Event.TheVariants.{Resolve}
 use Rattle.nt_semantics.specs.declared.process.Process.{Process}
 use Rattle.nt_semantics.specs.declared.process.Process.TheVariants.{Procedure, Assignment}
-use Rattle.nt_semantics.specs.ReadyLists.{RoundFits}
+use Rattle.nt_semantics.specs.ReadyLists.{RoundFits, has_begun, is_held, one_if, stands_listed, times}
 use Rattle.nt_semantics.specs.Laws.{RoundShows}
-use Rattle.nt_semantics.proofs.Listing.{or_left, or_right, among_left, among_right}
 
 -- ---- places in lists
 any_place : {A : Type 0} (test : A → Bool) (past : A) (xs : List A) → list_any test xs ≡ true → (i : ℕ) × (i < length xs) × (test (get_or xs i past) ≡ true)
@@ -26,30 +25,6 @@ any_place test past (x ∷ xs) h = of_first (λ g. any_place test past xs g) (te
     of_first : (list_any test xs ≡ true → (i : ℕ) × (i < length xs) × (test (get_or xs i past) ≡ true)) → (b : Bool) → test x ≡ b → (b || list_any test xs) ≡ true → (i : ℕ) × (i < length (x ∷ xs)) × (test (get_or (x ∷ xs) i past) ≡ true)
     of_first rest true is g = (zero, omega arith, is)
     of_first rest false is g = let i = rest g in (suc i.0, omega (arith, i.1), i.2)
-
-pub among_procs : (n a p : ℕ) → a ≤ p → p < a + n → is_among (map (λ q. Procedure q) (range_with_len a n)) (Procedure p) ≡ true
-among_procs zero a p low high = absurd (omega (arith, low, high))
-among_procs (suc n) a p low high = of_same (λ other. among_procs n (a + 1) p other (omega (arith, high))) (p == a) refl
-  where
-    above : (p ≡ a → ⊥) → a + 1 ≤ p
-    above other = omega (arith, low, other)
-
-    of_same : (a + 1 ≤ p → is_among (map (λ q. Procedure q) (range_with_len (a + 1) n)) (Procedure p) ≡ true) → (b : Bool) → (p == a) ≡ b → ((p == a) || is_among (map (λ q. Procedure q) (range_with_len (a + 1) n)) (Procedure p)) ≡ true
-    of_same rest true is = or_left (p == a) (is_among (map (λ q. Procedure q) (range_with_len (a + 1) n)) (Procedure p)) is
-    of_same rest false is =
-        or_right (p == a) (is_among (map (λ q. Procedure q) (range_with_len (a + 1) n)) (Procedure p)) (rest (above (λ e. false≢true (sym is ∙ eq-eqb p a e))))
-
-among_assigns : (n a p : ℕ) → a ≤ p → p < a + n → is_among (map (λ q. Assignment q) (range_with_len a n)) (Assignment p) ≡ true
-among_assigns zero a p low high = absurd (omega (arith, low, high))
-among_assigns (suc n) a p low high = of_same (λ other. among_assigns n (a + 1) p other (omega (arith, high))) (p == a) refl
-  where
-    above : (p ≡ a → ⊥) → a + 1 ≤ p
-    above other = omega (arith, low, other)
-
-    of_same : (a + 1 ≤ p → is_among (map (λ q. Assignment q) (range_with_len (a + 1) n)) (Assignment p) ≡ true) → (b : Bool) → (p == a) ≡ b → ((p == a) || is_among (map (λ q. Assignment q) (range_with_len (a + 1) n)) (Assignment p)) ≡ true
-    of_same rest true is = or_left (p == a) (is_among (map (λ q. Assignment q) (range_with_len (a + 1) n)) (Assignment p)) is
-    of_same rest false is =
-        or_right (p == a) (is_among (map (λ q. Assignment q) (range_with_len (a + 1) n)) (Assignment p)) (rest (above (λ e. false≢true (sym is ∙ eq-eqb p a e))))
 
 -- ---- phase Resolve
 some_entry : (d : Design) (groups : List (List Process)) (orders : ℕ → List ℕ) (k a n : ℕ) (s : MachineState) (ready : List (List Process)) → a ≤ n → n < a + k → nat_lt 0 (count_at s.resolutions n) ≡ true → (0 < length (resolve_nets d groups orders (range_with_len a k) s ready).entries) ⊎ IsSome (resolve_nets d groups orders (range_with_len a k) s ready).too_long
@@ -107,30 +82,26 @@ module _ (d : Design) (orders : ℕ → List ℕ) (r : RoundState) where
       longer : {A : Type 0} (xs ys zs : List A) → 0 < length xs → 0 < length ((xs ++ ys) ++ zs)
       longer xs ys zs h = omega (arith, h, length-append (xs ++ ys) zs, length-append xs ys)
 
-  module _ (fits : RoundFits d r) where
-    not_on : (x : Process) → fits.list ≡ [] → is_among fits.list x ≡ true → ⊥
-    not_on x none h = false≢true (ap (λ l. is_among l x) (sym none) ∙ h)
+  module _ (fits : RoundFits d r) (begun : r.begun ≡ true) where
+    none_held : fits.list ≡ [] → (x : Process) → is_held (has_begun r) r.state x ≡ true → ⊥
+    none_held none x h =
+        let one : times (is_same_process x) [] ≡ 1 = ap (times (is_same_process x)) (sym none) ∙ fits.holds x ∙ ap one_if h in
+        omega (arith, one)
 
     no_place : fits.list ≡ [] → (i : ℕ) → i < length r.state.standings → is_pending_at r.state (standing_at r.state i) ≡ true → ⊥
     no_place none i low h = of_place (standing_at r.state i) refl h
       where
-        among : is_among (processes d) (Procedure i) ≡ true
-        among = among_left (map (λ q. Procedure q) (range_with_len 0 (length d.procs))) (map (λ q. Assignment q) (range_with_len 0 (length d.assigns))) (Procedure i) (among_procs (length d.procs) 0 i (omega arith) (omega (arith, low, fits.fits.standings)))
-
         of_place : (q : Standing) → standing_at r.state i ≡ q → is_pending_at r.state q ≡ true → ⊥
-        of_place Ready is g = not_on (Procedure i) none (fits.listed (Procedure i) among (ready is))
-          where
-            ready : standing_at r.state i ≡ Ready → is_ready r.state (Procedure i) ≡ true
-            ready e = ap stands_ready e
-        of_place Unbegun is g = not_on (Procedure i) none (fits.combs g i is)
+        of_place Ready is g = none_held none (Procedure i) (ap (stands_listed (has_begun r)) is)
+        of_place Unbegun is g =
+            none_held none (Procedure i) (ap (stands_listed (has_begun r)) is ∙ ap (λ b. b && may_begin r.state) begun ∙ g)
         of_place Inactive is g = false≢true g
         of_place (Later at) is g = false≢true g
         of_place (Waits kept) is g = false≢true g
         of_place Over is g = false≢true g
 
     no_evaluation : fits.list ≡ [] → (a : ℕ) → a < length r.state.evaluations → nat_lt 0 (count_at r.state.evaluations a) ≡ true → ⊥
-    no_evaluation none a low h =
-        not_on (Assignment a) none (fits.listed (Assignment a) (among_right (map (λ q. Procedure q) (range_with_len 0 (length d.procs))) (map (λ q. Assignment q) (range_with_len 0 (length d.assigns))) (Assignment a) (among_assigns (length d.assigns) 0 a (omega arith) (omega (arith, low, fits.fits.evaluations)))) h)
+    no_evaluation none a low h = none_held none (Assignment a) h
 
     shows_none : fits.list ≡ [] → is_active r.state ≡ true → ShowsAt ([] ∷ [])
     unfolding is_active phase
@@ -164,4 +135,4 @@ module _ (d : Design) (orders : ℕ → List ℕ) (r : RoundState) where
 
 pub round_shows : RoundShows
 unfolding round
-round_shows d orders r fits active = shows_here d orders r fits active
+round_shows d orders r fits begun active = shows_here d orders r fits begun active

@@ -1,5 +1,5 @@
 -- The lists of the procedures that were put away stay right.
-use Rattle.std.proofs.Common.{◌≡◌, ◌↔◌, ◌⊎◌, inl, inr, ℕ, zero, suc, ◌==◌, nat_lt, Bool, true, false, not, if◌then◌else◌, List, [], ◌∷◌, ◌++◌, length, replicate, is_some, Option, Some, None, option_and_then, refl, sym, ◌∙◌, ap, subst, arith}
+use Rattle.std.proofs.Common.{◌≡◌, ◌↔◌, ◌⊎◌, inl, inr, ℕ, zero, suc, ◌+◌, ◌≤◌, ◌==◌, nat_lt, Bool, true, false, not, if◌then◌else◌, List, [], ◌∷◌, ◌++◌, length, replicate, is_some, Option, Some, None, option_and_then, refl, sym, ◌∙◌, ap, subst, arith}
 use Rattle.std.specs.Prelude.{nat_le, Contains}
 use Rattle.std.specs.List.{range_with_len}
 use Rattle.std.proofs.lemmas.Bool.{false≢true, eqb-true, eq-eqb}
@@ -12,7 +12,8 @@ use Rattle.nt_semantics.proofs.Listing.{entered}
 use Rattle.nt_semantics.proofs.Waking.{none_some, others_leave, others_stay}
 use Rattle.nt_semantics.specs.Execution.{activate, active_standing, begin_slot, copies, enter, if_some, is_entry, standing_in_slot, steps, begin_next, has_inactive, move_updates, next_moment}
 use Rattle.nt_semantics.specs.Laws.{RegionKeepsTied, RoundKeepsTied, SlotKeepsTied}
-use Rattle.nt_semantics.specs.ReadyLists.{IsOther, Tied, is_live}
+use Rattle.nt_semantics.proofs.Counting.{times_append}
+use Rattle.nt_semantics.specs.ReadyLists.{IsOther, Tied, is_live, times}
 use Rattle.nt_semantics.specs.Rounds.{Away, RoundState, PhaseEnd, ResolveEnd, RoundEnd, TooLong, after_activation, after_begin, and_before, away_after, entry_of, evaluate, is_waiting, marks_of, net_entry, next_ready, next_region, next_slot, perform, phase, procs_at, put_away, quantum, resolve_nets, round, stops, update_round, with_entry, with_later, with_woken, without_entries, without_moment, woken}
 use Rattle.nt_semantics.specs.State.{MachineState, count_at, standing_at, work_at}
 use Rattle.nt_semantics.specs.Step.{is_pending_at, proc_step, step, is_some_put}
@@ -166,6 +167,117 @@ later_other q p at Inactive away other = (λ c. c, λ c. c)
 later_other q p at (Waits kept) away other = (λ c. c, λ c. c)
 later_other q p at Over away other = (λ c. c, λ c. c)
 
+-- ---- how often a procedure was put away
+pub times_none : (p : ℕ) (xs : List ℕ) → (Contains xs p → ⊥) → times (λ q. p == q) xs ≡ 0
+times_none p [] none = refl
+times_none p (x ∷ xs) none = of_first (times_none p xs (λ c. none (suc c.0, omega (arith, c.1), c.2))) (p == x) refl
+  where
+    of_first : times (λ q. p == q) xs ≡ 0 → (b : Bool) → (p == x) ≡ b → (if p == x then 1 + times (λ q. p == q) xs else times (λ q. p == q) xs) ≡ 0
+    of_first rest false is = ap (λ (b : Bool). if b then 1 + times (λ q. p == q) xs else times (λ q. p == q) xs) is ∙ rest
+    of_first rest true is = absurd (none (zero, omega arith, sym (eqb-true p x is)))
+
+-- one where it is this procedure and this moment
+extra : Bool → Bool → ℕ
+extra true true = 1
+extra true false = 0
+extra false same = 0
+
+times_one : (q p : ℕ) → times (λ k. p == k) (q ∷ []) ≡ extra true (p == q)
+unfolding extra
+times_one q p = of_same (p == q)
+  where
+    of_same : (b : Bool) → (if b then 1 + 0 else 0) ≡ extra true b
+    of_same true = refl
+    of_same false = refl
+
+part_times : (m at q p : ℕ) (ps : List ℕ) → times (λ k. p == k) (part_at at (m, ps ++ q ∷ [])) ≡ times (λ k. p == k) (part_at at (m, ps)) + extra (m == at) (p == q)
+unfolding extra
+part_times m at q p ps = of_at (m == at)
+  where
+    of_at : (b : Bool) → times (λ k. p == k) (if b then ps ++ q ∷ [] else []) ≡ times (λ k. p == k) (if b then ps else []) + extra b (p == q)
+    of_at true = times_append (λ k. p == k) ps (q ∷ []) ∙ ap (λ n. times (λ k. p == k) ps + n) (times_one q p)
+    of_at false = refl
+
+part_none : (m at p : ℕ) → times (λ k. p == k) (part_at at (m, [])) ≡ 0
+part_none m at p = of_at (m == at)
+  where
+    of_at : (b : Bool) → times (λ k. p == k) (if b then [] else []) ≡ times (λ k. p == k) []
+    of_at true = refl
+    of_at false = refl
+
+-- a procedure that is put away at a moment stands there once more
+abbrev OnceMore : ℕ → ℕ → ℕ → ℕ → List (ℕ × List ℕ) → Type 0
+OnceMore m q at p later =
+    times (λ k. p == k) (procs_at at (with_later m q later)) ≡ times (λ k. p == k) (procs_at at later) + extra (m == at) (p == q)
+
+once_more : (m q at p : ℕ) (later : List (ℕ × List ℕ)) → OnceMore m q at p later
+once_more m q at p [] =
+    let parts = times_append (λ k. p == k) (part_at at (m, q ∷ [])) [] in
+    let part = part_times m at q p [] in
+    omega (arith, parts, part, part_none m at p)
+once_more m q at p (slot ∷ later) = of_same (once_more m q at p later) (m == slot.0) refl
+  where
+    before : times (λ k. p == k) (procs_at at (slot ∷ later)) ≡ times (λ k. p == k) (part_at at slot) + times (λ k. p == k) (procs_at at later)
+    before = times_append (λ k. p == k) (part_at at slot) (procs_at at later)
+
+    here : m ≡ slot.0 → times (λ k. p == k) (procs_at at ((m, slot.1 ++ q ∷ []) ∷ later)) ≡ times (λ k. p == k) (procs_at at (slot ∷ later)) + extra (m == at) (p == q)
+    here same =
+        let parts = times_append (λ k. p == k) (part_at at (m, slot.1 ++ q ∷ [])) (procs_at at later) in
+        let part = part_times m at q p slot.1 in
+        let moved : times (λ k. p == k) (part_at at (m, slot.1)) ≡ times (λ k. p == k) (part_at at slot) = ap (λ n. times (λ k. p == k) (part_at at (n, slot.1))) same in
+        omega (arith, parts, part, moved, before)
+
+    of_less : OnceMore m q at p later → (b : Bool) → times (λ k. p == k) (procs_at at (if b then (m, q ∷ []) ∷ slot ∷ later else slot ∷ with_later m q later)) ≡ times (λ k. p == k) (procs_at at (slot ∷ later)) + extra (m == at) (p == q)
+    of_less rest true =
+        let parts = times_append (λ k. p == k) (part_at at (m, q ∷ [])) (procs_at at (slot ∷ later)) in
+        let part = part_times m at q p [] in
+        omega (arith, parts, part, part_none m at p)
+    of_less rest false =
+        let parts = times_append (λ k. p == k) (part_at at slot) (procs_at at (with_later m q later)) in
+        omega (arith, parts, before, rest)
+
+    of_same : OnceMore m q at p later → (b : Bool) → (m == slot.0) ≡ b → times (λ k. p == k) (procs_at at (if b then (m, slot.1 ++ q ∷ []) ∷ later else (if nat_lt m slot.0 then (m, q ∷ []) ∷ slot ∷ later else slot ∷ with_later m q later))) ≡ times (λ k. p == k) (procs_at at (slot ∷ later)) + extra (m == at) (p == q)
+    of_same rest true is = here (eqb-true m slot.0 is)
+    of_same rest false is = of_less rest (nat_lt m slot.0)
+
+at_most_one : (a b : Bool) → extra a b ≤ 1
+unfolding extra
+at_most_one true true = omega arith
+at_most_one true false = omega arith
+at_most_one false b = omega arith
+
+none_extra : (a : Bool) → extra a false ≡ 0
+unfolding extra
+none_extra true = refl
+none_extra false = refl
+
+-- what was there at most once, and not where it is the procedure, is there at most once
+still_once : (n : ℕ) (a : Bool) (p q : ℕ) → n ≤ 1 → (p ≡ q → n ≡ 0) → n + extra a (p == q) ≤ 1
+still_once n a p q few none = of_same (p == q) refl
+  where
+    of_same : (b : Bool) → (p == q) ≡ b → n + extra a (p == q) ≤ 1
+    of_same true is = omega (arith, none (eqb-true p q is), at_most_one a (p == q))
+    of_same false is = let zero_more : extra a (p == q) ≡ 0 = ap (extra a) is ∙ none_extra a in omega (arith, few, zero_more)
+
+inactive_once_more : (q p : ℕ) (standing : Standing) (away : Away) → times (λ k. p == k) away.inactive ≤ 1 → (p ≡ q → times (λ k. p == k) away.inactive ≡ 0) → times (λ k. p == k) (put_away q standing away).inactive ≤ 1
+inactive_once_more q p Inactive away few none =
+    let parts = times_append (λ k. p == k) away.inactive (q ∷ []) in
+    omega (arith, parts, times_one q p, still_once (times (λ k. p == k) away.inactive) true p q few none)
+inactive_once_more q p Unbegun away few none = few
+inactive_once_more q p Ready away few none = few
+inactive_once_more q p (Later at) away few none = few
+inactive_once_more q p (Waits kept) away few none = few
+inactive_once_more q p Over away few none = few
+
+later_once_more : (q p at : ℕ) (standing : Standing) (away : Away) → times (λ k. p == k) (procs_at at away.later) ≤ 1 → (p ≡ q → times (λ k. p == k) (procs_at at away.later) ≡ 0) → times (λ k. p == k) (procs_at at (put_away q standing away).later) ≤ 1
+later_once_more q p at (Later m) away few none =
+    omega (arith, once_more m q at p away.later, still_once (times (λ k. p == k) (procs_at at away.later)) (m == at) p q few none)
+later_once_more q p at Unbegun away few none = few
+later_once_more q p at Ready away few none = few
+later_once_more q p at Inactive away few none = few
+later_once_more q p at (Waits kept) away few none = few
+later_once_more q p at Over away few none = few
+
 -- which of them a standing is
 abbrev is_in_inactive : Standing → Bool
 is_in_inactive Inactive = true
@@ -240,10 +352,14 @@ tied_entry : (d : Design) (s t : MachineState) (x : Process) (away : Away) → s
 tied_entry d s t (Assignment a) away run tied = record {
   inactive = λ p. through (tied.inactive p) (parked d (AssignEvent a) (entry_of d s (Assignment a)).count s t p Inactive refl refl tt run);
   later = λ at p. through (tied.later at p) (parked d (AssignEvent a) (entry_of d s (Assignment a)).count s t p (Later at) refl refl tt run);
+  inactive_once = tied.inactive_once;
+  later_once = tied.later_once;
 }
 tied_entry d s t (Procedure q) away run tied = record {
   inactive = λ p. of_inactive p (q == p) refl;
   later = λ at p. of_later at p (q == p) refl;
+  inactive_once = λ p. inactive_once_more q p (standing_at t q) away (tied.inactive_once p) (λ e. times_none p away.inactive (subst (λ k. Contains away.inactive k → ⊥) (sym e) not_inactive));
+  later_once = λ at p. later_once_more q p at (standing_at t q) away (tied.later_once at p) (λ e. times_none p (procs_at at away.later) (subst (λ k. Contains (procs_at at away.later) k → ⊥) (sym e) (not_later at)));
 }
   where
     pending : is_pending_at s (standing_at s q) ≡ true
@@ -295,6 +411,8 @@ tied_net : (d : Design) (n k : ℕ) (order : List ℕ) (s t : MachineState) (awa
 tied_net d n k order s t away run tied = record {
   inactive = λ p. through (tied.inactive p) (parked d (Resolve n order) k s t p Inactive refl refl tt run);
   later = λ at p. through (tied.later at p) (parked d (Resolve n order) k s t p (Later at) refl refl tt run);
+  inactive_once = tied.inactive_once;
+  later_once = tied.later_once;
 }
 
 abbrev NetsKeep : Design → List (List Process) → (ℕ → List ℕ) → List ℕ → Away → Type 0
@@ -348,6 +466,8 @@ activation_tied : (groups : List (List Process)) (r : RoundState) → Tied r.sta
 activation_tied groups r tied = record {
   inactive = λ p. (λ c. none_in p c, λ h. absurd (activated_inactive (standing_at r.state p) (sym (place_mapped active_standing refl r.state.standings p) ∙ h)));
   later = λ at p. through (tied.later at p) (through (activated_later (standing_at r.state p) at) (same_at at p));
+  inactive_once = λ p. omega arith;
+  later_once = tied.later_once;
 }
   where
     same_at : (at p : ℕ) → (active_standing (standing_at r.state p) ≡ Later at) ↔ (standing_at (activate r.state) p ≡ Later at)
@@ -421,10 +541,23 @@ without_in m at p (slot ∷ later) = of_test (without_in m at p later) (slot.0 =
       ],
     )
 
+fewer_left : (m at p : ℕ) (later : List (ℕ × List ℕ)) → times (λ k. p == k) (procs_at at (without_moment m later)) ≤ times (λ k. p == k) (procs_at at later)
+fewer_left m at p [] = omega arith
+fewer_left m at p (slot ∷ later) = of_test (fewer_left m at p later) (not (slot.0 == m))
+  where
+    before : times (λ k. p == k) (procs_at at (slot ∷ later)) ≡ times (λ k. p == k) (part_at at slot) + times (λ k. p == k) (procs_at at later)
+    before = times_append (λ k. p == k) (part_at at slot) (procs_at at later)
+
+    of_test : times (λ k. p == k) (procs_at at (without_moment m later)) ≤ times (λ k. p == k) (procs_at at later) → (b : Bool) → times (λ k. p == k) (procs_at at (if b then slot ∷ without_moment m later else without_moment m later)) ≤ times (λ k. p == k) (procs_at at (slot ∷ later))
+    of_test rest true = omega (arith, rest, before, times_append (λ k. p == k) (part_at at slot) (procs_at at (without_moment m later)))
+    of_test rest false = omega (arith, rest, before)
+
 begin_tied : (groups : List (List Process)) (r : RoundState) (m : ℕ) → Tied r.state r.away → Tied (after_begin groups r (begin_slot m r.state)).state (after_begin groups r (begin_slot m r.state)).away
 begin_tied groups r m tied = record {
   inactive = λ p. through (tied.inactive p) (through (begun_inactive m (standing_at r.state p)) (same_inactive p));
   later = λ at p. through (without_in m at p r.away.later) (both at p);
+  inactive_once = tied.inactive_once;
+  later_once = λ at p. omega (arith, fewer_left m at p r.away.later, tied.later_once at p);
 }
   where
     same : (p : ℕ) → standing_at (begin_slot m r.state) p ≡ standing_in_slot m (standing_at r.state p)
@@ -444,6 +577,8 @@ tied_update : (d : Design) (s t : MachineState) (away : Away) → step d s Updat
 tied_update d s t away is tied = record {
   inactive = λ p. through (tied.inactive p) (parked d Update 1 s t p Inactive refl refl tt run);
   later = λ at p. through (tied.later at p) (parked d Update 1 s t p (Later at) refl refl tt run);
+  inactive_once = tied.inactive_once;
+  later_once = tied.later_once;
 }
   where
     run : steps d (replicate 1 Update) s ≡ Some t
@@ -471,7 +606,7 @@ region_tied d groups r e tied = of_inactive (has_inactive r.state)
     of_updates : (b : Bool) → (if b then Some updates else None) ≡ Some e → Tied e.after.state e.after.away
     of_updates false h = absurd (none_some e h)
     of_updates true h =
-        subst (λ (x : RoundEnd). Tied x.after.state x.after.away) (same_Some updates e h) (perform_tied d groups r.state.nonblocking (record r { state = move_updates r.state }) (record { inactive = tied.inactive; later = tied.later }))
+        subst (λ (x : RoundEnd). Tied x.after.state x.after.away) (same_Some updates e h) (perform_tied d groups r.state.nonblocking (record r { state = move_updates r.state }) (record { inactive = tied.inactive; later = tied.later; inactive_once = tied.inactive_once; later_once = tied.later_once }))
 
     of_inactive : (b : Bool) → (if b then Some (without_entries (after_activation groups r)) else (if is_some_put r.state.nonblocking then Some updates else None)) ≡ Some e → Tied e.after.state e.after.away
     of_inactive true h =

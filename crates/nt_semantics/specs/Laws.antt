@@ -1,18 +1,19 @@
 -- Laws of the definitions, each a statement for a function without a body to promise.
-use Rattle.std.specs.Prelude.{◌≡◌, ◌↔◌, ◌⊎◌, ◌<◌, ◌≤◌, ◌^◌, ◌++◌, ℕ, true, false, List, [], ◌∷◌, Some, None, All}
+use Rattle.std.specs.Prelude.{◌≡◌, ◌↔◌, ◌⊎◌, ◌<◌, ◌≤◌, ◌^◌, ◌++◌, ℕ, true, false, List, [], ◌∷◌, length, slice_get, Some, None, All}
 use Rattle.std.specs.List.{range_with_len}
 use Rattle.std.specs.List.Sorted.{IsPermutation}
 use Rattle.nt_design.specs.WellFormed.{IsDesign}
 use Rattle.nt_design.specs.declared.design.Design.{Design}
+use Rattle.nt_design.specs.declared.object.Net.{Net}
 use Rattle.nt_semantics.specs.Execution.{Execution, enter_all, is_active, is_over, move, may_repeat, steps, run, expansion, ended, followed, seen}
 use Rattle.nt_semantics.specs.ReadyLists.{IsOther, Listed, OneListed, RoundFits, Shows, StandsOn, Tied}
 use Rattle.nt_semantics.specs.Groups.{processes}
-use Rattle.nt_semantics.specs.Rounds.{Away, RoundState, phase, round, RoundEnd, next_region, next_slot}
+use Rattle.nt_semantics.specs.Rounds.{Away, RoundState, arrival, declared_order, phase, round, RoundEnd, next_region, next_slot, none_away, start_rounds}
 use Rattle.nt_semantics.specs.declared.process.Process.{Process}
 use Rattle.nt_semantics.specs.Slots.{Few, Went}
 use Rattle.nt_semantics.specs.State.{MachineState, start_state, standing_at, fewer}
 use Rattle.nt_semantics.specs.StateFits.{IsStateOf}
-use Rattle.nt_semantics.specs.Step.{step, is_pending, is_order, copies_of}
+use Rattle.nt_semantics.specs.Step.{step, all_below, is_pending, is_order, copies_of}
 use Rattle.nt_semantics.specs.Texts.{IsWritten, witness_text}
 use Rattle.nt_semantics.specs.declared.event.Entry.{Entry}
 use Rattle.nt_semantics.specs.declared.event.Event.{Event}
@@ -99,15 +100,59 @@ abbrev pub RoundKeepsLists : Type 0
 RoundKeepsLists =
     (d : Design) (orders : ℕ → List ℕ) (r : RoundState) → OneListed d r.state r.ready → OneListed d (round d (processes d ∷ []) orders r).after.state (round d (processes d ∷ []) orders r).after.ready
 
--- a round of a state with something in Active has an entry, or an event that is too long
+-- a round of a state with something in Active, after the first, has an entry, or an event that is too long
 abbrev pub RoundShows : Type 0
 RoundShows =
-    (d : Design) (orders : ℕ → List ℕ) (r : RoundState) → RoundFits d r → is_active r.state ≡ true → Shows (round d (processes d ∷ []) orders r)
+    (d : Design) (orders : ℕ → List ℕ) (r : RoundState) → RoundFits d r → r.begun ≡ true → is_active r.state ≡ true → Shows (round d (processes d ∷ []) orders r)
 
 -- a round with one group keeps what is right between rounds
 abbrev pub RoundKeepsFits : Type 0
 RoundKeepsFits =
     (d : Design) (orders : ℕ → List ℕ) (r : RoundState) → IsDesign d → RoundFits d r → RoundFits d (round d (processes d ∷ []) orders r).after
+
+-- what is right between rounds is so at the start
+abbrev pub RoundsStartFit : Type 0
+RoundsStartFit = (d : Design) → IsDesign d → RoundFits d (start_rounds d (processes d ∷ []))
+
+-- each of these orders is one of its net's slots
+abbrev pub AreOrders : Design → (ℕ → List ℕ) → Type 0
+AreOrders d orders = (n : ℕ) (net : Net) → slice_get d.nets n ≡ Some net → is_order (length net.slots) (orders n) ≡ true
+
+abbrev pub DeclaredAreOrders : Type 0
+DeclaredAreOrders = (d : Design) → AreOrders d (declared_order d)
+
+-- so is what the marks of a net's slots give
+abbrev pub ArrivalsAreOrders : Type 0
+ArrivalsAreOrders =
+    (d : Design) (n : ℕ) (net : Net) (slots : List ℕ) → slice_get d.nets n ≡ Some net → all_below (length net.slots) slots ≡ true → is_order (length net.slots) (arrival d n slots) ≡ true
+
+-- the entries of a round with one group lead within a slot from its start to its end, and what stops it is too long there
+abbrev pub RoundGoes : Type 0
+RoundGoes =
+    (d : Design) (orders : ℕ → List ℕ) (r : RoundState) → IsDesign d → AreOrders d orders → RoundFits d r → Went d r.state (round d (processes d ∷ []) orders r).entries (round d (processes d ∷ []) orders r).too_long (round d (processes d ∷ []) orders r).after.state
+
+-- so do the next region and the next slot
+abbrev pub RegionKeepsFits : Type 0
+RegionKeepsFits =
+    (d : Design) (r : RoundState) (e : RoundEnd) → IsDesign d → RoundFits d r → Tied r.state r.away → next_region d (processes d ∷ []) r ≡ Some e → RoundFits d e.after
+
+abbrev pub SlotKeepsFits : Type 0
+SlotKeepsFits =
+    (until : ℕ) (d : Design) (r : RoundState) (e : RoundEnd) → until ≤ 2 ^ 48 → RoundFits d r → Tied r.state r.away → next_slot until (processes d ∷ []) r ≡ Some e → RoundFits d e.after
+
+-- the next region leads within a slot to where it says
+abbrev pub RegionGoes : Type 0
+RegionGoes =
+    (d : Design) (r : RoundState) (e : RoundEnd) → RoundFits d r → is_active r.state ≡ false → next_region d (processes d ∷ []) r ≡ Some e → Went d r.state e.entries e.too_long e.after.state
+
+-- the next slot begins by the one move of a slot that is over
+abbrev pub SlotGoes : Type 0
+SlotGoes =
+    (until : ℕ) (groups : List (List Process)) (r : RoundState) (e : RoundEnd) → is_over r.state ≡ true → next_slot until groups r ≡ Some e → (e.entries ≡ []) × ((e.too_long ≡ None) × (move until r.state ≡ Some e.after.state))
+
+-- at the start no procedure was put away
+abbrev pub RoundsStartTied : Type 0
+RoundsStartTied = (d : Design) → Tied (start_state d) none_away
 
 -- rounds keep the procedures that were put away on their lists, and so do the next region and the next slot
 abbrev pub RoundKeepsTied : Type 0

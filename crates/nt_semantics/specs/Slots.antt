@@ -29,7 +29,7 @@ run_here d [] s = Some s
 run_here d (e ∷ es) s = option_and_then (run_here d es) (step d (settle_here s) e)
 
 -- These entries lead within a slot from one state to another, perhaps with a move behind them; what is too long is so there;
--- and an entry adds at most one copy of an event.
+-- and an entry adds at most one copy of an event, where a move makes one copy at most of what had none.
 pub record Went (d : Design) (s : MachineState) (entries : List Entry) (too_long : Option Event) (t : MachineState) : Type 0 where
   pub reached : MachineState
   pub runs : run_here d (expansion entries) s ≡ Some reached
@@ -37,7 +37,7 @@ pub record Went (d : Design) (s : MachineState) (entries : List Entry) (too_long
   pub counted : All (λ (entry : Entry). is_entry d entry ≡ true) entries
   pub long : IfSome too_long (IsTooLong d t)
   pub moment : t.moment ≡ s.moment
-  pub grows : (most : ℕ) → Few most s → Few (most + length entries) t
+  pub grows : (most : ℕ) → 1 ≤ most → Few most s → Few (most + length entries) t
 
 -- ---- slot after slot
 -- The events lead to a state that differs from this one by at most the move that the next event needs. The slots that have

@@ -1,9 +1,19 @@
 // Laws of the definitions in specs/, each proved of every design and state.
-ghost use Rattle.nt_semantics.specs.Laws.{ExecutionFits, OrdersArePermutations, OnlyPending, AgainChangesNothing, RoundLeads, MoveFills, MoveKeeps, MoveStays, StartFits, StepKeeps, EndedIsFollowed, WitnessIsOne, OthersWakeTheWaiting, PhaseKeepsLists, RoundKeepsLists, RoundShows, OnlyActive, SlotsBeginSmall, RoundEnters, EntriesGo, RoundKeepsFits, RoundKeepsTied, RegionKeepsTied, SlotKeepsTied};
+ghost use Rattle.nt_semantics.specs.Laws.{ExecutionFits, OrdersArePermutations, DeclaredAreOrders, ArrivalsAreOrders, OnlyPending, AgainChangesNothing, RoundLeads, MoveFills, MoveKeeps, MoveStays, StartFits, StepKeeps, EndedIsFollowed, WitnessIsOne, OthersWakeTheWaiting, PhaseKeepsLists, RoundKeepsLists, RoundShows, OnlyActive, SlotsBeginSmall, RoundEnters, EntriesGo, RoundKeepsFits, RegionKeepsFits, SlotKeepsFits, RoundsStartFit, RoundGoes, RegionGoes, SlotGoes, RoundsStartTied, RoundKeepsTied, RegionKeepsTied, SlotKeepsTied};
 
 /// The orders that a resolution of n slots may name are the permutations of the numbers below n (4.7).
 pub fn orders_are_permutations()
     ensures { OrdersArePermutations }
+{}
+
+/// Declared order names each net's slots, once.
+pub fn declared_are_orders()
+    ensures { DeclaredAreOrders }
+{}
+
+/// So does an order of arrival, of marks on the net's slots.
+pub fn arrivals_are_orders()
+    ensures { ArrivalsAreOrders }
 {}
 
 /// An event that isn't pending has no step.
@@ -77,7 +87,7 @@ pub fn round_keeps_lists()
     ensures { RoundKeepsLists }
 {}
 
-/// A round of a state with something in Active has an entry, or an event that is too long.
+/// A round after the first of a state with something in Active has an entry, or an event that is too long.
 pub fn round_shows()
     ensures { RoundShows }
 {}
@@ -105,6 +115,41 @@ pub fn entries_go()
 /// A round with one group keeps what is right between rounds: its list, and each `always_comb` that may begin on it.
 pub fn round_keeps_fits()
     ensures { RoundKeepsFits }
+{}
+
+/// So does the next region.
+pub fn region_keeps_fits()
+    ensures { RegionKeepsFits }
+{}
+
+/// So does the next slot, up to a time limit of at most 2^48.
+pub fn slot_keeps_fits()
+    ensures { SlotKeepsFits }
+{}
+
+/// What is right between rounds is so at the start.
+pub fn rounds_start_fit()
+    ensures { RoundsStartFit }
+{}
+
+/// The entries of a round with one group lead within a slot from its start to its end, and what stops it takes too many turns there.
+pub fn round_goes()
+    ensures { RoundGoes }
+{}
+
+/// The next region leads within a slot to where it says.
+pub fn region_goes()
+    ensures { RegionGoes }
+{}
+
+/// The next slot begins by the one move of a slot that is over.
+pub fn slot_goes()
+    ensures { SlotGoes }
+{}
+
+/// At the start no procedure was put away.
+pub fn rounds_start_tied()
+    ensures { RoundsStartTied }
 {}
 
 /// Rounds keep the procedures that were put away on their lists.

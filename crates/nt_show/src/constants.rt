@@ -11,6 +11,7 @@ ghost use Rattle.nt_const.specs.Answers.{IsTarget};
 use nt_ast::{Expr, Path};
 use nt_const::{Constants, constant, width_and_sign};
 use nt_diag::Fault;
+use nt_lexer::MOST_BYTES;
 use nt_texts::constant_of;
 use nt_value::{Binary, Bits, Digit, Leaf, Literal, Name, Place, Text, Unary, print_leaf, unary};
 use sqlite_items::{Boxed, Items};
@@ -645,7 +646,7 @@ pub(crate) fn tell_value(
     text: &[u8],
     out: &mut Text,
 ) -> Result<(), Unread> {
-    if 4194304 < text.len() {
+    if text.len() > MOST_BYTES as usize {
         return Err(Unread::Words);
     }
     match constant_of(alloc, text, known, None) {

@@ -1,32 +1,31 @@
 // The text of an expression: each node after its offset.
+use crate::saying::Saying;
 use crate::words::{begin, said_binary, said_unary, say_key, say_literal, say_path};
 use nt_ast::{Expr, Key};
-use nt_value::Text;
 use sqlite_items::{Boxed, Items};
-use std::alloc::AllocError;
 
 /// Adds the text of an expression.
 #[cycle(say_expr)]
-pub(crate) fn say_expr(expr: &Expr, out: &mut Text) -> Result<(), AllocError> {
+pub(crate) fn say_expr(expr: &Expr, out: &mut Saying) {
     match expr {
         Expr::Literal { at, value } => {
-            begin(*at, b"", out)?;
-            say_literal(value, out)
+            begin(*at, b"", out);
+            say_literal(value, out);
         }
         Expr::Read { at, path } => {
-            begin(*at, b"", out)?;
-            say_path(*at, path, out)
+            begin(*at, b"", out);
+            say_path(*at, path, out);
         }
         Expr::Member { at, of, name, .. } => {
-            begin(*at, b"(", out)?;
-            say_then(of, b" .", out)?;
-            out.push_bytes(name.items())?;
-            out.push(b')')
+            begin(*at, b"(", out);
+            say_then(of, b" .", out);
+            out.put(name.items());
+            out.put(b")");
         }
         Expr::Item { at, of, index } => {
-            begin(*at, b"(", out)?;
-            say_then(of, b" [ ", out)?;
-            say_then(index, b" ])", out)
+            begin(*at, b"(", out);
+            say_then(of, b" [ ", out);
+            say_then(index, b" ])", out);
         }
         Expr::Part {
             at,
@@ -34,10 +33,10 @@ pub(crate) fn say_expr(expr: &Expr, out: &mut Text) -> Result<(), AllocError> {
             left,
             right,
         } => {
-            begin(*at, b"(", out)?;
-            say_then(of, b" [ ", out)?;
-            say_then(left, b" : ", out)?;
-            say_then(right, b" ])", out)
+            begin(*at, b"(", out);
+            say_then(of, b" [ ", out);
+            say_then(left, b" : ", out);
+            say_then(right, b" ])", out);
         }
         Expr::Indexed {
             at,
@@ -46,8 +45,8 @@ pub(crate) fn say_expr(expr: &Expr, out: &mut Text) -> Result<(), AllocError> {
             width,
             up,
         } => {
-            begin(*at, b"(", out)?;
-            say_then(of, b" [ ", out)?;
+            begin(*at, b"(", out);
+            say_then(of, b" [ ", out);
             say_then(
                 base,
                 if *up {
@@ -56,14 +55,14 @@ pub(crate) fn say_expr(expr: &Expr, out: &mut Text) -> Result<(), AllocError> {
                     b" -: ".as_slice()
                 },
                 out,
-            )?;
-            say_then(width, b" ])", out)
+            );
+            say_then(width, b" ])", out);
         }
         Expr::Unary { at, op, of } => {
-            begin(*at, b"(", out)?;
-            out.push_bytes(said_unary(*op))?;
-            out.push(b' ')?;
-            say_then(of, b")", out)
+            begin(*at, b"(", out);
+            out.put(said_unary(*op));
+            out.put(b" ");
+            say_then(of, b")", out);
         }
         Expr::Binary {
             at,
@@ -71,38 +70,38 @@ pub(crate) fn say_expr(expr: &Expr, out: &mut Text) -> Result<(), AllocError> {
             left,
             right,
         } => {
-            begin(*at, b"(", out)?;
-            say_then(left, said_binary(*op), out)?;
-            say_then(right, b")", out)
+            begin(*at, b"(", out);
+            say_then(left, said_binary(*op), out);
+            say_then(right, b")", out);
         }
         Expr::Choose { at, test, yes, no } => {
-            begin(*at, b"(", out)?;
-            say_then(test, b" ? ", out)?;
-            say_then(yes, b" : ", out)?;
-            say_then(no, b")", out)
+            begin(*at, b"(", out);
+            say_then(test, b" ? ", out);
+            say_then(yes, b" : ", out);
+            say_then(no, b")", out);
         }
         Expr::Concat { at, parts } => {
-            begin(*at, b"{", out)?;
-            say_all(parts, b"}", out)
+            begin(*at, b"{", out);
+            say_all(parts, b"}", out);
         }
         Expr::Repeat { at, count, parts } => {
-            begin(*at, b"{", out)?;
-            say_then(count, b"{", out)?;
-            say_all(parts, b"}}", out)
+            begin(*at, b"{", out);
+            say_then(count, b"{", out);
+            say_all(parts, b"}}", out);
         }
         Expr::Pattern { at, items } => {
-            begin(*at, b"'{", out)?;
-            say_items(items, out)
+            begin(*at, b"'{", out);
+            say_items(items, out);
         }
         Expr::Call { at, path, args } => {
-            begin(*at, b"", out)?;
-            say_path(*at, path, out)?;
-            out.push(b'(')?;
-            say_all(args, b")", out)
+            begin(*at, b"", out);
+            say_path(*at, path, out);
+            out.put(b"(");
+            say_all(args, b")", out);
         }
         Expr::Size { at, of } => {
-            begin(*at, b"(", out)?;
-            say_then(of, b" .size())", out)
+            begin(*at, b"(", out);
+            say_then(of, b" .size())", out);
         }
         Expr::Time { at } => begin(*at, b"$time", out),
         Expr::Sign { at, signed, of } => {
@@ -114,42 +113,42 @@ pub(crate) fn say_expr(expr: &Expr, out: &mut Text) -> Result<(), AllocError> {
                     b"$unsigned(".as_slice()
                 },
                 out,
-            )?;
-            say_then(of, b")", out)
+            );
+            say_then(of, b")", out);
         }
     }
 }
 
 #[cycle(say_expr)]
-fn say_then(expr: &Boxed<Expr>, after: &[u8], out: &mut Text) -> Result<(), AllocError> {
-    say_expr(expr.get(), out)?;
-    out.push_bytes(after)
+fn say_then(expr: &Boxed<Expr>, after: &[u8], out: &mut Saying) {
+    say_expr(expr.get(), out);
+    out.put(after);
 }
 
 /// Adds the texts of expressions with a comma between two.
 #[cycle(say_expr)]
-pub(crate) fn say_all(parts: &Items<Expr>, after: &[u8], out: &mut Text) -> Result<(), AllocError> {
+pub(crate) fn say_all(parts: &Items<Expr>, after: &[u8], out: &mut Saying) {
     let mut later = false;
     for part in parts.as_slice() {
         if later {
-            out.push(b',')?;
+            out.put(b",");
         }
         later = true;
-        say_expr(part, out)?;
+        say_expr(part, out);
     }
-    out.push_bytes(after)
+    out.put(after);
 }
 
 #[cycle(say_expr)]
-fn say_items(parts: &Items<(Option<Key>, Expr)>, out: &mut Text) -> Result<(), AllocError> {
+fn say_items(parts: &Items<(Option<Key>, Expr)>, out: &mut Saying) {
     let mut later = false;
     for (key, part) in parts.as_slice() {
         if later {
-            out.push(b',')?;
+            out.put(b",");
         }
         later = true;
-        say_key(key, out)?;
-        say_expr(part, out)?;
+        say_key(key, out);
+        say_expr(part, out);
     }
-    out.push(b'}')
+    out.put(b"}");
 }

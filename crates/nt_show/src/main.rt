@@ -9,6 +9,7 @@ mod constants;
 mod escapes;
 mod expressions;
 mod limits;
+mod saying;
 mod statements;
 mod tokens;
 mod trees;

@@ -1,108 +1,99 @@
 // The text of a statement: each node after its offset.
 use crate::expressions::{say_all, say_expr};
+use crate::saying::Saying;
 use crate::words::{begin, say_path};
 use nt_ast::{Expr, Stmt};
-use nt_value::{Edge, Name, Place, Text};
+use nt_value::{Edge, Name, Place};
 use sqlite_items::{Boxed, Items};
-use std::alloc::AllocError;
 
-fn say_name(name: &Name, after: &[u8], out: &mut Text) -> Result<(), AllocError> {
-    out.push_bytes(name.items())?;
-    out.push_bytes(after)
+fn say_name(name: &Name, after: &[u8], out: &mut Saying) {
+    out.put(name.items());
+    out.put(after);
 }
 
-fn say_spaced(parts: &Items<Expr>, out: &mut Text) -> Result<(), AllocError> {
+fn say_spaced(parts: &Items<Expr>, out: &mut Saying) {
     for part in parts.as_slice() {
-        out.push(b' ')?;
-        say_expr(part, out)?;
+        out.put(b" ");
+        say_expr(part, out);
     }
-    Ok(())
 }
 
-fn say_events(on: &Items<(Edge, Expr)>, out: &mut Text) -> Result<(), AllocError> {
+fn say_events(on: &Items<(Edge, Expr)>, out: &mut Saying) {
     for (edge, part) in on.as_slice() {
-        out.push_bytes(match *edge {
+        out.put(match *edge {
             Edge::Any => b"any ".as_slice(),
             Edge::Pos => b"pos ".as_slice(),
             Edge::Neg => b"neg ".as_slice(),
-        })?;
-        say_expr(part, out)?;
-        out.push(b' ')?;
+        });
+        say_expr(part, out);
+        out.put(b" ");
     }
-    Ok(())
 }
 
 // What stands before the body of a statement.
-fn say_test(at: Place, opening: &[u8], expr: &Expr, out: &mut Text) -> Result<(), AllocError> {
-    begin(at, opening, out)?;
-    say_expr(expr, out)?;
-    out.push(b' ')
+fn say_test(at: Place, opening: &[u8], expr: &Expr, out: &mut Saying) {
+    begin(at, opening, out);
+    say_expr(expr, out);
+    out.put(b" ");
 }
 
 #[cycle(say_stmt)]
-fn say_body(body: &Boxed<Stmt>, out: &mut Text) -> Result<(), AllocError> {
-    say_stmt(body.get(), out)?;
-    out.push(b')')
+fn say_body(body: &Boxed<Stmt>, out: &mut Saying) {
+    say_stmt(body.get(), out);
+    out.put(b")");
 }
 
-fn say_pair(
-    at: Place,
-    left: &Expr,
-    mark: &[u8],
-    right: &Expr,
-    out: &mut Text,
-) -> Result<(), AllocError> {
-    begin(at, b"(", out)?;
-    say_expr(left, out)?;
-    out.push_bytes(mark)?;
-    say_expr(right, out)?;
-    out.push(b')')
+fn say_pair(at: Place, left: &Expr, mark: &[u8], right: &Expr, out: &mut Saying) {
+    begin(at, b"(", out);
+    say_expr(left, out);
+    out.put(mark);
+    say_expr(right, out);
+    out.put(b")");
 }
 
 #[cycle(say_stmt)]
-fn say_block(items: &Items<Stmt>, out: &mut Text) -> Result<(), AllocError> {
+fn say_block(items: &Items<Stmt>, out: &mut Saying) {
     let mut later = false;
     for item in items.as_slice() {
         if later {
-            out.push(b' ')?;
+            out.put(b" ");
         }
         later = true;
-        say_stmt(item, out)?;
+        say_stmt(item, out);
     }
-    out.push(b'}')
+    out.put(b"}");
 }
 
 #[cycle(say_stmt)]
-fn say_arms(arms: &Items<(Items<Expr>, Stmt)>, out: &mut Text) -> Result<(), AllocError> {
+fn say_arms(arms: &Items<(Items<Expr>, Stmt)>, out: &mut Saying) {
     for (values, body) in arms.as_slice() {
-        out.push_bytes(b" [")?;
-        say_all(values, b"] ", out)?;
-        say_stmt(body, out)?;
+        out.put(b" [");
+        say_all(values, b"] ", out);
+        say_stmt(body, out);
     }
-    Ok(())
 }
 
 /// Adds the text of a statement.
 #[cycle(say_stmt)]
-pub(crate) fn say_stmt(stmt: &Stmt, out: &mut Text) -> Result<(), AllocError> {
+pub(crate) fn say_stmt(stmt: &Stmt, out: &mut Saying) {
     match stmt {
         Stmt::Null { at } => begin(*at, b";", out),
         Stmt::Block { at, items } => {
-            begin(*at, b"{", out)?;
-            say_block(items, out)
+            begin(*at, b"{", out);
+            say_block(items, out);
         }
         Stmt::Assign { at, left, right } => say_pair(*at, left, b" = ", right, out),
         Stmt::Nonblocking { at, left, right } => say_pair(*at, left, b" <= ", right, out),
         Stmt::If { at, test, yes, no } => {
-            begin(*at, b"if(", out)?;
-            say_expr(test, out)?;
-            out.push(b' ')?;
-            say_stmt(yes.get(), out)?;
+            begin(*at, b"if(", out);
+            say_expr(test, out);
+            out.put(b" ");
+            say_stmt(yes.get(), out);
             if let Some(other) = no {
-                out.push_bytes(b" else ")?;
-                say_stmt(other.get(), out)?;
+                out.put(b" else ");
+                say_stmt(other.get(), out);
             }
-            out.push(b')')
+            out.put(b")");
         }
         Stmt::Case {
             at,
@@ -110,22 +101,22 @@ pub(crate) fn say_stmt(stmt: &Stmt, out: &mut Text) -> Result<(), AllocError> {
             arms,
             other,
         } => {
-            begin(*at, b"case(", out)?;
-            say_expr(test, out)?;
-            say_arms(arms, out)?;
+            begin(*at, b"case(", out);
+            say_expr(test, out);
+            say_arms(arms, out);
             if let Some(body) = other {
-                out.push_bytes(b" default ")?;
-                say_stmt(body.get(), out)?;
+                out.put(b" default ");
+                say_stmt(body.get(), out);
             }
-            out.push(b')')
+            out.put(b")");
         }
         Stmt::While { at, test, body } => {
-            say_test(*at, b"while(", test, out)?;
-            say_body(body, out)
+            say_test(*at, b"while(", test, out);
+            say_body(body, out);
         }
         Stmt::Repeat { at, count, body } => {
-            say_test(*at, b"repeat(", count, out)?;
-            say_body(body, out)
+            say_test(*at, b"repeat(", count, out);
+            say_body(body, out);
         }
         Stmt::For {
             at,
@@ -145,19 +136,19 @@ pub(crate) fn say_stmt(stmt: &Stmt, out: &mut Text) -> Result<(), AllocError> {
                     b"for(".as_slice()
                 },
                 out,
-            )?;
-            say_name(name, b" = ", out)?;
-            say_expr(first, out)?;
-            out.push(b' ')?;
-            say_expr(test, out)?;
-            out.push(b' ')?;
-            say_stmt(step.get(), out)?;
-            out.push(b' ')?;
-            say_body(body, out)
+            );
+            say_name(name, b" = ", out);
+            say_expr(first, out);
+            out.put(b" ");
+            say_expr(test, out);
+            out.put(b" ");
+            say_stmt(step.get(), out);
+            out.put(b" ");
+            say_body(body, out);
         }
         Stmt::Forever { at, body } => {
-            begin(*at, b"forever(", out)?;
-            say_body(body, out)
+            begin(*at, b"forever(", out);
+            say_body(body, out);
         }
         Stmt::Foreach {
             at,
@@ -166,14 +157,14 @@ pub(crate) fn say_stmt(stmt: &Stmt, out: &mut Text) -> Result<(), AllocError> {
             body,
             ..
         } => {
-            begin(*at, b"foreach(", out)?;
-            say_name(array, b" ", out)?;
-            say_name(index, b" ", out)?;
-            say_body(body, out)
+            begin(*at, b"foreach(", out);
+            say_name(array, b" ", out);
+            say_name(index, b" ", out);
+            say_body(body, out);
         }
         Stmt::Delay { at, amount, body } => {
-            say_test(*at, b"delay(", amount, out)?;
-            say_body(body, out)
+            say_test(*at, b"delay(", amount, out);
+            say_body(body, out);
         }
         Stmt::Event { at, any, on, body } => {
             begin(
@@ -184,35 +175,35 @@ pub(crate) fn say_stmt(stmt: &Stmt, out: &mut Text) -> Result<(), AllocError> {
                     b"event(".as_slice()
                 },
                 out,
-            )?;
-            say_events(on, out)?;
-            say_body(body, out)
+            );
+            say_events(on, out);
+            say_body(body, out);
         }
         Stmt::Wait { at, test, body } => {
-            say_test(*at, b"wait(", test, out)?;
-            say_body(body, out)
+            say_test(*at, b"wait(", test, out);
+            say_body(body, out);
         }
         Stmt::Return { at, value } => {
-            begin(*at, b"return(", out)?;
+            begin(*at, b"return(", out);
             if let Some(x) = value {
-                say_expr(x, out)?;
+                say_expr(x, out);
             }
-            out.push(b')')
+            out.put(b")");
         }
         Stmt::Break { at } => begin(*at, b"break", out),
         Stmt::Continue { at } => begin(*at, b"continue", out),
         Stmt::Call { at, path, args } => {
-            begin(*at, b"", out)?;
-            say_path(*at, path, out)?;
-            out.push(b'(')?;
-            say_all(args, b")", out)
+            begin(*at, b"", out);
+            say_path(*at, path, out);
+            out.put(b"(");
+            say_all(args, b")", out);
         }
         Stmt::Display { at, text, args } => {
-            begin(*at, b"display(\"", out)?;
-            out.push_bytes(text.items())?;
-            out.push(b'"')?;
-            say_spaced(args, out)?;
-            out.push(b')')
+            begin(*at, b"display(\"", out);
+            out.put(text.items());
+            out.put(b"\"");
+            say_spaced(args, out);
+            out.put(b")");
         }
         Stmt::Finish { at } => begin(*at, b"finish", out),
     }

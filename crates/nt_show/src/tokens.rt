@@ -1,8 +1,9 @@
 // The tokens of a text, each with its line and column, or the refusal; then the unit of the head and its count.
+use crate::saying::Saying;
 use crate::words::say_literal;
 use nt_diag::{Fault, Refusal};
-use nt_lexer::{Head, Mark, Token, TokenKind, Word, tokens};
-use nt_value::{Base, Text, Unit};
+use nt_lexer::{Head, MOST_BYTES, Mark, Token, TokenKind, Word, tokens};
+use nt_value::{Base, Text};
 use std::alloc::{AllocError, Global};
 
 fn said_mark(mark: Mark) -> &'static [u8] {
@@ -122,78 +123,82 @@ fn said_word(word: Word) -> &'static [u8] {
     }
 }
 
-fn say_kind(kind: &TokenKind, out: &mut Text) -> Result<(), AllocError> {
+fn say_kind(kind: &TokenKind, out: &mut Saying) {
     match kind {
-        TokenKind::Word(word) => out.push_bytes(said_word(*word)),
-        TokenKind::Mark(mark) => out.push_bytes(said_mark(*mark)),
+        TokenKind::Word(word) => out.put(said_word(*word)),
+        TokenKind::Mark(mark) => out.put(said_mark(*mark)),
         TokenKind::Name(name) => {
-            out.push(b'n')?;
-            out.push_number(name.items().len() as u64)
+            out.put(b"n");
+            out.number(name.items().len() as u32);
         }
         TokenKind::System(name) => {
-            out.push(b'$')?;
-            out.push_bytes(name.items())
+            out.put(b"$");
+            out.put(name.items());
         }
         TokenKind::Number(literal) => say_literal(literal, out),
         TokenKind::Text(text) => {
-            out.push(b'"')?;
-            out.push_bytes(text.items())?;
-            out.push(b'"')
+            out.put(b"\"");
+            out.put(text.items());
+            out.put(b"\"");
         }
-        TokenKind::End => out.push_bytes(b"end"),
+        TokenKind::End => out.put(b"end"),
     }
 }
 
-fn say_at(line: u32, column: u32, out: &mut Text) -> Result<(), AllocError> {
-    out.push(b'@')?;
-    out.push_number(u64::from(line))?;
-    out.push(b':')?;
-    out.push_number(u64::from(column))?;
-    out.push(b' ')
+fn say_at(line: u32, column: u32, out: &mut Saying) {
+    out.put(b"@");
+    out.number(line);
+    out.put(b":");
+    out.number(column);
+    out.put(b" ");
 }
 
-fn say_list(list: &[Token], out: &mut Text) -> Result<(), AllocError> {
+fn say_list(list: &[Token], out: &mut Saying) {
     for token in list {
-        say_kind(&token.kind, out)?;
-        say_at(token.at.line, token.at.column, out)?;
+        say_kind(&token.kind, out);
+        say_at(token.at.line, token.at.column, out);
     }
-    Ok(())
 }
 
-fn say_refusal(refusal: Refusal, out: &mut Text) -> Result<(), AllocError> {
-    out.push_bytes(refusal.rule.code().as_bytes())?;
-    say_at(refusal.place.line, refusal.place.column, out)
+fn say_refusal(refusal: Refusal, out: &mut Saying) {
+    out.put(refusal.rule.code().as_bytes());
+    say_at(refusal.place.line, refusal.place.column, out);
 }
 
-fn say_unit(unit: Unit, out: &mut Text) -> Result<(), AllocError> {
-    out.push_number(u64::from(unit.ten))?;
-    out.push(match unit.base {
-        Base::S => b's',
-        Base::Ms => b'm',
-        Base::Us => b'u',
-        Base::Ns => b'n',
-        Base::Ps => b'p',
-        Base::Fs => b'f',
-    })?;
-    out.push(b' ')
+fn said_base(base: Base) -> &'static [u8] {
+    match base {
+        Base::S => b"s ".as_slice(),
+        Base::Ms => b"m ".as_slice(),
+        Base::Us => b"u ".as_slice(),
+        Base::Ns => b"n ".as_slice(),
+        Base::Ps => b"p ".as_slice(),
+        Base::Fs => b"f ".as_slice(),
+    }
+}
+
+fn say_head(head: &Head, out: &mut Saying) {
+    if let Some(unit) = head.unit {
+        out.number(u32::from(unit.ten));
+        out.put(said_base(unit.base));
+    }
+    out.number(head.count);
 }
 
 /// Adds what the tokens of the text are.
 pub(crate) fn tell_tokens(alloc: Global, bytes: &[u8], out: &mut Text) -> Result<(), AllocError> {
-    if 4194304 < bytes.len() {
+    if bytes.len() > MOST_BYTES as usize {
         return out.push_bytes(b"too long");
     }
     let mut head = Head {
         unit: None,
         count: 0,
     };
+    let mut saying = Saying::new(alloc);
     match tokens(alloc, 0, bytes, &mut head) {
-        Ok(list) => say_list(&list, out)?,
-        Err(Fault::Refused(refusal)) => say_refusal(refusal, out)?,
+        Ok(list) => say_list(&list, &mut saying),
+        Err(Fault::Refused(refusal)) => say_refusal(refusal, &mut saying),
         Err(Fault::OutOfMemory(refused)) => return Err(refused),
     }
-    if let Some(unit) = head.unit {
-        say_unit(unit, out)?;
-    }
-    out.push_number(u64::from(head.count))
+    say_head(&head, &mut saying);
+    out.push_bytes(saying.whole()?.items())
 }

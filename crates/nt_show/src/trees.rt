@@ -1,9 +1,10 @@
 // The trees of a text, or the refusal.
 use crate::expressions::say_expr;
+use crate::saying::Saying;
 use crate::statements::say_stmt;
 use nt_ast::{Expr, Stmt, copy_expr, copy_stmt};
 use nt_diag::Fault;
-use nt_lexer::{Head, Token, tokens};
+use nt_lexer::{Head, MOST_BYTES, Token, tokens};
 use nt_parse_expr::{Cursor, expression, statement};
 use nt_texts::{expression_of, statement_of};
 use nt_value::{Place, Text};
@@ -16,7 +17,7 @@ fn cut(alloc: Global, text: &[u8]) -> Result<Vec<Token>, AllocError> {
         unit: None,
         count: 0,
     };
-    if 4194304 < text.len() {
+    if text.len() > MOST_BYTES as usize {
         return Ok(Vec::new(alloc));
     }
     match tokens(alloc, 0, text, &mut head) {
@@ -24,10 +25,6 @@ fn cut(alloc: Global, text: &[u8]) -> Result<Vec<Token>, AllocError> {
         Err(Fault::Refused(_refusal)) => Ok(Vec::new(alloc)),
         Err(Fault::OutOfMemory(refused)) => Err(refused),
     }
-}
-
-fn new_text(alloc: Global) -> Text {
-    Text::new(Vec::new(alloc))
 }
 
 // Adds the text of a tree, and a mark where that of its copy is another.
@@ -40,21 +37,29 @@ fn say_both(tree: &Text, copy: &Text, out: &mut Text) -> Result<(), AllocError> 
     out.push_bytes(copy.items())
 }
 
+fn said_expr(alloc: Global, expr: &Expr) -> Result<Text, AllocError> {
+    let mut saying = Saying::new(alloc);
+    say_expr(expr, &mut saying);
+    saying.whole()
+}
+
+fn said_stmt(alloc: Global, stmt: &Stmt) -> Result<Text, AllocError> {
+    let mut saying = Saying::new(alloc);
+    say_stmt(stmt, &mut saying);
+    saying.whole()
+}
+
 fn tell_expr(alloc: Global, expr: &Expr, out: &mut Text) -> Result<(), AllocError> {
-    let mut first = new_text(alloc);
-    say_expr(expr, &mut first)?;
+    let first = said_expr(alloc, expr)?;
     let copy = Boxed::new(alloc, copy_expr(alloc, expr)?)?;
-    let mut second = new_text(alloc);
-    say_expr(copy.get(), &mut second)?;
+    let second = said_expr(alloc, copy.get())?;
     say_both(&first, &second, out)
 }
 
 fn tell_stmt(alloc: Global, stmt: &Stmt, out: &mut Text) -> Result<(), AllocError> {
-    let mut first = new_text(alloc);
-    say_stmt(stmt, &mut first)?;
+    let first = said_stmt(alloc, stmt)?;
     let copy = Boxed::new(alloc, copy_stmt(alloc, stmt)?)?;
-    let mut second = new_text(alloc);
-    say_stmt(copy.get(), &mut second)?;
+    let second = said_stmt(alloc, copy.get())?;
     say_both(&first, &second, out)
 }
 
@@ -133,7 +138,7 @@ pub(crate) fn tell_first(alloc: Global, text: &[u8], out: &mut Text) -> Result<(
 
 /// Whether all of the text is one expression.
 pub(crate) fn is_expression(alloc: Global, text: &[u8]) -> Result<bool, AllocError> {
-    if 4194304 < text.len() {
+    if text.len() > MOST_BYTES as usize {
         return Ok(false);
     }
     match expression_of(alloc, text) {
@@ -145,7 +150,7 @@ pub(crate) fn is_expression(alloc: Global, text: &[u8]) -> Result<bool, AllocErr
 
 /// Whether all of the text is one statement.
 pub(crate) fn is_statement(alloc: Global, text: &[u8]) -> Result<bool, AllocError> {
-    if 4194304 < text.len() {
+    if text.len() > MOST_BYTES as usize {
         return Ok(false);
     }
     match statement_of(alloc, text) {

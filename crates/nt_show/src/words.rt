@@ -1,7 +1,7 @@
 // The text of a literal, of an operator and of a path, in the words of the cases.
+use crate::saying::Saying;
 use nt_ast::{Key, Path};
-use nt_value::{Binary, Digit, Literal, Place, Text, Unary};
-use std::alloc::AllocError;
+use nt_value::{Binary, Digit, Literal, Place, Unary};
 
 pub(crate) fn said_unary(op: Unary) -> &'static [u8] {
     match op {
@@ -45,8 +45,17 @@ pub(crate) fn said_binary(op: Binary) -> &'static [u8] {
     }
 }
 
+fn said_digit(digit: Digit) -> &'static [u8] {
+    match digit {
+        Digit::Zero => b"0".as_slice(),
+        Digit::One => b"1".as_slice(),
+        Digit::X => b"x".as_slice(),
+        Digit::Z => b"z".as_slice(),
+    }
+}
+
 // The digits, without needless zeros.
-fn say_digits(literal: &Literal, out: &mut Text) -> Result<(), AllocError> {
+fn say_digits(literal: &Literal, out: &mut Saying) {
     let bits = literal.bits;
     let mut seen = false;
     for at in (0..bits.width()).rev() {
@@ -55,56 +64,50 @@ fn say_digits(literal: &Literal, out: &mut Text) -> Result<(), AllocError> {
             seen = true;
         }
         if seen {
-            out.push(match digit {
-                Digit::Zero => b'0',
-                Digit::One => b'1',
-                Digit::X => b'x',
-                Digit::Z => b'z',
-            })?;
+            out.put(said_digit(digit));
         }
     }
-    Ok(())
 }
 
-pub(crate) fn say_literal(literal: &Literal, out: &mut Text) -> Result<(), AllocError> {
+pub(crate) fn say_literal(literal: &Literal, out: &mut Saying) {
     if literal.sized {
-        out.push(b'$')?;
+        out.put(b"$");
     }
     if literal.fill {
-        out.push(b'\'')?;
+        out.put(b"'");
     }
     if literal.bits.leaf().signed {
-        out.push(b's')?;
+        out.put(b"s");
     }
-    out.push_number(u64::from(literal.bits.width()))?;
-    out.push(b'b')?;
-    say_digits(literal, out)
+    out.number(u32::from(literal.bits.width()));
+    out.put(b"b");
+    say_digits(literal, out);
 }
 
-pub(crate) fn say_path(at: Place, path: &Path, out: &mut Text) -> Result<(), AllocError> {
+pub(crate) fn say_path(at: Place, path: &Path, out: &mut Saying) {
     if path.at != at {
-        out.push(b'!')?;
+        out.put(b"!");
     }
     if let Some(scope) = &path.scope {
-        out.push_bytes(scope.items())?;
-        out.push_bytes(b"::")?;
+        out.put(scope.items());
+        out.put(b"::");
     }
-    out.push_bytes(path.name.items())
+    out.put(path.name.items());
 }
 
-pub(crate) fn say_key(key: &Option<Key>, out: &mut Text) -> Result<(), AllocError> {
+pub(crate) fn say_key(key: &Option<Key>, out: &mut Saying) {
     match key {
-        None => Ok(()),
-        Some(Key::Other) => out.push_bytes(b"default:"),
+        None => {}
+        Some(Key::Other) => out.put(b"default:"),
         Some(Key::Member(name)) => {
-            out.push_bytes(name.items())?;
-            out.push(b':')
+            out.put(name.items());
+            out.put(b":");
         }
     }
 }
 
-pub(crate) fn begin(at: Place, opening: &[u8], out: &mut Text) -> Result<(), AllocError> {
-    out.push_number(u64::from(at.offset))?;
-    out.push(b':')?;
-    out.push_bytes(opening)
+pub(crate) fn begin(at: Place, opening: &[u8], out: &mut Saying) {
+    out.number(at.offset);
+    out.put(b":");
+    out.put(opening);
 }

@@ -35,7 +35,7 @@ went_nowhere d s = record {
   counted = All-nil (λ (entry : Entry). is_entry d entry ≡ true);
   long = tt;
   moment = refl;
-  grows = λ most few. fewer_than most (most + 0) s (omega arith) few;
+  grows = λ most some few. fewer_than most (most + 0) s (omega arith) few;
 }
 
 -- where events lead from a state that was perhaps moved
@@ -76,7 +76,7 @@ went_then d s t u es fs ev first second = record {
   counted = All-append (λ (entry : Entry). is_entry d entry ≡ true) es fs first.counted second.counted;
   long = second.long;
   moment = second.moment ∙ first.moment;
-  grows = λ most few. fewer_than (most + length es + length fs) (most + length (es ++ fs)) u (omega (arith, length-append es fs)) (second.grows (most + length es) (first.grows most few));
+  grows = λ most some few. fewer_than (most + length es + length fs) (most + length (es ++ fs)) u (omega (arith, length-append es fs)) (second.grows (most + length es) (omega (arith, some)) (first.grows most some few));
 }
   where
     leads : Leads d (expansion fs) first.reached u
@@ -154,7 +154,7 @@ module _ (made : RoundState → List Entry → Option Event → RoundState → T
 
   pub still_few : (g h : RoundState) (a b : SinkMeaning) (calls : List Call) → Few (2 ^ 61) g.state → Along made s g a calls h b → Few (2 ^ 62 - 2 ^ 20) h.state
   still_few g h a b calls few along =
-      fewer_than (2 ^ 61 + length (entries_of calls)) (2 ^ 62 - 2 ^ 20) h.state (omega (arith, along.few)) (along.went.grows (2 ^ 61) few)
+      fewer_than (2 ^ 61 + length (entries_of calls)) (2 ^ 62 - 2 ^ 20) h.state (omega (arith, along.few)) (along.went.grows (2 ^ 61) (omega arith) few)
 
 -- ---- the loop
 pub record SlotSoFar (made : RoundState → List Entry → Option Event → RoundState → Type 0) (s : Setting) (g : RoundState) (a : SinkMeaning) (h : RoundState) (b : SinkMeaning) (count : ℕ) : Type 0 where

@@ -19,6 +19,10 @@ fn number(digits: &[u8]) -> u64
 }
 
 /// The `int` of a number.
+///
+/// # Errors
+///
+/// `AllocError` alone.
 pub fn int(alloc: Global, digits: &[u8]) -> Result<Value, AllocError>
     requires { IsNumber digits.now }
     ensures { IfOk result (λ value. value ≡ int_value (number_of_digits digits.now)) }

@@ -34,6 +34,10 @@ impl Name {
     }
 
     /// The name of a copy of these bytes.
+    ///
+    /// # Errors
+    ///
+    /// `AllocError` alone.
     pub fn from_slice(alloc: Global, bytes: &[u8]) -> Result<Name, AllocError>
         ensures { IfOk result (λ name. name ≡ bytes.now) }
     {
@@ -50,6 +54,10 @@ impl Name {
     }
 
     /// An equal name.
+    ///
+    /// # Errors
+    ///
+    /// `AllocError` alone.
     pub fn copy(&self, alloc: Global) -> Result<Name, AllocError>
         ensures { IfOk result (λ name. name ≡ self.now) }
     {

@@ -49,6 +49,10 @@ impl Shape {
     }
 
     /// An equal shape.
+    ///
+    /// # Errors
+    ///
+    /// `AllocError` alone.
     pub fn copy(&self, alloc: Global) -> Result<Shape, AllocError>
         ensures { IfOk result (λ shape. shape ≡ self.now) }
     {
@@ -118,6 +122,10 @@ impl Value {
 }
 
 /// The value of a shape with each leaf at its default.
+///
+/// # Errors
+///
+/// `AllocError` alone.
 pub fn default_of(alloc: Global, shape: &Shape) -> Result<Value, AllocError>
     ensures { IfOk result (λ value. value ≡ default_value shape.now) }
 {
@@ -129,6 +137,10 @@ pub fn default_of(alloc: Global, shape: &Shape) -> Result<Value, AllocError>
 }
 
 /// An equal value.
+///
+/// # Errors
+///
+/// `AllocError` alone.
 pub fn copy(alloc: Global, value: &Value) -> Result<Value, AllocError>
     ensures { IfOk result (λ copy. copy ≡ value.now) }
 {

@@ -1,0 +1,5 @@
+pub mod Tables
+pub mod Parts
+pub mod Functions
+pub mod Items
+pub mod Reader
