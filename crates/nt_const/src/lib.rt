@@ -17,3 +17,8 @@ pub use evaluate::{constant, constant_by, width_and_sign, width_and_sign_by};
 pub use laws::one_answer;
 pub use lookup::Lookup;
 pub use seen::Seen;
+pub use size::{
+    Size, binary_size, choice_size, join, left_context, one_bit, right_context, signed_as,
+    unary_context, unary_size,
+};
+pub use value::{counts, literal_at, width_of};

@@ -6,9 +6,9 @@ ghost use Rattle.nt_const.specs.Tables.{binary_leaf, bit, choice_leaf, divided, 
 use nt_value::{Binary, Leaf, Unary};
 use std::marker::Model;
 
-// A leaf of 1 to 64 digits.
+/// A leaf of 1 to 64 digits.
 #[derive(Clone, Copy, Debug)]
-pub(crate) struct Size {
+pub struct Size {
     leaf: Leaf,
 }
 
@@ -28,21 +28,24 @@ impl Model for Size {
 }
 
 impl Size {
-    pub(crate) fn new(leaf: Leaf) -> Size
+    /// The leaf, of which the width is known to be one.
+    pub fn new(leaf: Leaf) -> Size
         requires { IsLeaf leaf }
         ensures { result ≡ leaf }
     {
         Size { leaf }
     }
 
-    pub(crate) fn leaf(self) -> Leaf
+    /// The leaf.
+    pub fn leaf(self) -> Leaf
         ensures value { result ≡ self }
         ensures valid { IsLeaf result }
     {
         self.leaf
     }
 
-    pub(crate) fn of(width: u8, signed: bool, four: bool) -> Size
+    /// The leaf of so many digits, signed or not, of four states or of two.
+    pub fn of(width: u8, signed: bool, four: bool) -> Size
         requires { IsLeaf (record { width = width; signed = signed; four = four }) }
         ensures { result ≡ record { width = width; signed = signed; four = four } }
     {
@@ -62,13 +65,15 @@ fn in_four(size: Size) -> Size
     Size::of(leaf.width, leaf.signed, true)
 }
 
-pub(crate) fn one_bit(four: bool) -> Size
+/// One digit of comparisons, logical operators and reductions (IEEE 1800-2017, 11.6.1).
+pub fn one_bit(four: bool) -> Size
     ensures { result ≡ bit four }
 {
     Size::of(1, false, four)
 }
 
-pub(crate) fn signed_as(size: Size, signed: bool) -> Size
+/// The leaf with this sign.
+pub fn signed_as(size: Size, signed: bool) -> Size
     ensures { result ≡ with_sign signed size }
 {
     let leaf = size.leaf();
@@ -81,8 +86,8 @@ fn either(a: bool, b: bool) -> bool
     a || b
 }
 
-// The leaf of two operands that take width and sign from each other.
-pub(crate) fn join(a: Size, b: Size) -> Size
+/// The leaf of two operands that take width and sign from each other: the larger width, and signed where both are (11.6.1, 11.8.1).
+pub fn join(a: Size, b: Size) -> Size
     ensures { result ≡ joined a b }
 {
     let x = a.leaf();
@@ -113,7 +118,8 @@ fn compare(a: Size, b: Size) -> Size
     one_bit(either(a.leaf().four, b.leaf().four))
 }
 
-pub(crate) fn unary_size(op: Unary, a: Size) -> Size
+/// The leaf of an operator by itself, from that of its operand (11.6.1, Table 11-21).
+pub fn unary_size(op: Unary, a: Size) -> Size
     ensures { result ≡ unary_leaf op a }
 {
     match op {
@@ -128,7 +134,8 @@ pub(crate) fn unary_size(op: Unary, a: Size) -> Size
     }
 }
 
-pub(crate) fn unary_context(op: Unary, context: Size, a: Size) -> Size
+/// The leaf that the operand takes where the operator takes `context` (11.8.2).
+pub fn unary_context(op: Unary, context: Size, a: Size) -> Size
     ensures { result ≡ unary_in op context a }
 {
     match op {
@@ -143,7 +150,8 @@ pub(crate) fn unary_context(op: Unary, context: Size, a: Size) -> Size
     }
 }
 
-pub(crate) fn binary_size(op: Binary, a: Size, b: Size) -> Size
+/// The leaf of an operator by itself, from those of its operands (11.6.1, Table 11-21).
+pub fn binary_size(op: Binary, a: Size, b: Size) -> Size
     ensures { result ≡ binary_leaf op a b }
 {
     match op {
@@ -169,7 +177,8 @@ pub(crate) fn binary_size(op: Binary, a: Size, b: Size) -> Size
     }
 }
 
-pub(crate) fn left_context(op: Binary, context: Size, a: Size, b: Size) -> Size
+/// The leaf that the left operand takes where the operator takes `context`: of a comparison one from the two operands alone, of a logical operator its own (11.6.1, 11.8.2).
+pub fn left_context(op: Binary, context: Size, a: Size, b: Size) -> Size
     ensures { result ≡ left_in op context a b }
 {
     match op {
@@ -197,7 +206,8 @@ pub(crate) fn left_context(op: Binary, context: Size, a: Size, b: Size) -> Size
     }
 }
 
-pub(crate) fn right_context(op: Binary, context: Size, a: Size, b: Size) -> Size
+/// The leaf that the right operand takes where the operator takes `context`; the amount of a shift has its own (11.6.1, 11.8.2).
+pub fn right_context(op: Binary, context: Size, a: Size, b: Size) -> Size
     ensures { result ≡ right_in op context a b }
 {
     match op {
@@ -222,7 +232,8 @@ pub(crate) fn right_context(op: Binary, context: Size, a: Size, b: Size) -> Size
     }
 }
 
-pub(crate) fn choice_size(test: Size, a: Size, b: Size) -> Size
+/// The leaf of `?:` by itself: an unknown test gives x (11.4.11).
+pub fn choice_size(test: Size, a: Size, b: Size) -> Size
     ensures { result ≡ choice_leaf test a b }
 {
     let l = join(a, b).leaf();

@@ -35,8 +35,8 @@ fn spreads(value: &Literal) -> bool
     !highest(value.bits).is_known()
 }
 
-// A literal in a context.
-pub(crate) fn literal_at(value: &Literal, context: Size) -> Bits
+/// The value of a literal in a context (IEEE 1800-2017, 5.7.1, 11.8.2).
+pub fn literal_at(value: &Literal, context: Size) -> Bits
     ensures { result ≡ literal_in value.now context }
 {
     let bits = value.bits;
@@ -67,8 +67,8 @@ fn is_negative(a: Bits) -> bool
     }
 }
 
-// Whether a value is a bound or count: known, not below 0, and below 2^32.
-pub(crate) fn counts(a: Bits) -> bool
+/// Whether a value is a bound or count: known, not below 0, and below 2^32.
+pub fn counts(a: Bits) -> bool
     ensures { IsTrue result ↔ Counts a }
 {
     if !a.is_known() {
@@ -80,8 +80,8 @@ pub(crate) fn counts(a: Bits) -> bool
     a.magnitude() <= u64::from(u32::MAX)
 }
 
-// The width that a known value asks for: below 0 it is none, as 0 is.
-pub(crate) fn width_of(a: Bits) -> u64
+/// The width that a known value asks for: below 0 it is none, as 0 is.
+pub fn width_of(a: Bits) -> u64
     requires known { all_known a.digits ≡ true }
     ensures { result ≡ asked a }
 {

@@ -1,0 +1,8 @@
+//! Typed expressions: what an expression stands for in a scope, its typed tree, and its faults.
+#![tactic(auto)]
+
+mod laws;
+mod scope;
+
+pub use laws::{bare_copies, least_first, no_fault, one_tree, shapes_right};
+pub use scope::{Callable, Entity, Inside, Scope};
