@@ -1,0 +1,4 @@
+pub mod Arms
+pub mod Doable
+pub mod Endings
+pub mod Spans
