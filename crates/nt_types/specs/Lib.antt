@@ -1,0 +1,5 @@
+pub mod Ends
+pub mod Parts
+pub mod Units
+pub mod Opened
+pub mod Laws
