@@ -93,10 +93,8 @@ fn copy_dims(alloc: Global, dims: &Items<Dimension>) -> Result<Items<Dimension>,
     Ok(all)
 }
 
-pub(crate) fn copy_declared(
-    alloc: Global,
-    what: &Boxed<Declared>,
-) -> Result<Boxed<Declared>, AllocError>
+/// An equal declared name.
+pub fn copy_declared(alloc: Global, what: &Boxed<Declared>) -> Result<Boxed<Declared>, AllocError>
     ensures { IfOk result (λ copy. copy ≡ what.now) }
 {
     let what = what.get();

@@ -6,5 +6,5 @@ mod copy_parts;
 mod item;
 
 pub use copy::{copy_function, copy_item};
-pub use copy_parts::{copy_conns, copy_kind};
+pub use copy_parts::{copy_conns, copy_declared, copy_kind};
 pub use item::{Conn, FunctionItem, Item, NettypeItem, Port, PortKind, ProcedureItem, Units, Way};

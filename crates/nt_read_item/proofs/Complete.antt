@@ -59,7 +59,7 @@ use Rattle.nt_read_unit.proofs.Complete.{name_taken, NameFirst, name_by, name_ki
 -- ---- what follows a declared name
 
 -- the marks that may do so
-abbrev after_mark : Mark → Bool
+abbrev pub after_mark : Mark → Bool
 after_mark m.Assign = true
 after_mark m.Comma = true
 after_mark m.Semicolon = true
@@ -179,7 +179,7 @@ module _ (limit : ℕ) where
       type_first limit (is_word_kind word) false (no_word_words word lacks) (λ n. refl)
       (false_of (is_word_kind word (k.Word w.Struct)) (λ e. let q : true ≡ false = ap r.begins_local (word_is word (k.Word w.Struct) e) ∙ lacks in absurd cc)) one rest
 
-  dims_after : {d : ℕ} {ts : Tokens} {xs : List (Expr × Option Expr)} → Groups (Dim limit d) ts xs → (rest : Tokens) → After rest → After (ts ++ rest)
+  pub dims_after : {d : ℕ} {ts : Tokens} {xs : List (Expr × Option Expr)} → Groups (Dim limit d) ts xs → (rest : Tokens) → After rest → After (ts ++ rest)
   dims_after no_group rest a = a
   dims_after (next_group (size {ts = ts} o c is_o one is_c) more) rest a = after_by m.LeftBracket o _ is_o refl
   dims_after (next_group (ends (range o q c is_o one is_q two is_c)) more) rest a = after_by m.LeftBracket o _ is_o refl

@@ -11,4 +11,4 @@ mod parts;
 pub use front::{Form, flag, form_of};
 pub use module_items::module_item;
 pub use package_items::{imports, package_item};
-pub use parts::type_at;
+pub use parts::{plain_name, type_at};

@@ -65,7 +65,7 @@ pub fn type_at(
 }
 
 /// A declared name without dimensions.
-pub(crate) fn plain_name(
+pub fn plain_name(
     alloc: Global,
     at: Place,
     name: Name,

@@ -1,0 +1,8 @@
+//! Reads whole files of SystemVerilog.
+#![tactic(auto)]
+
+mod laws;
+mod text;
+
+pub use laws::{one_source, source_exactly};
+pub use text::source_text;

@@ -1,0 +1,4 @@
+pub mod Tables
+pub mod Carried
+pub mod Units
+pub mod Reader
