@@ -1,0 +1,2 @@
+pub mod Become
+pub mod Closed
