@@ -1,17 +1,14 @@
 // Bounds and dimensions of types.
-ghost use Rattle.std.specs.Prelude.{◌≡◌, ◌↔◌, IsTrue, IfOk};
+ghost use Rattle.std.specs.Prelude.{◌≡◌, IfOk};
 ghost use Rattle.nt_ast.specs.Places.{place_of};
 ghost use Rattle.nt_ast.specs.declared.expr.Expr.TheViews.{out-Expr};
-ghost use Rattle.nt_const.specs.Tables.{Counts};
-ghost use Rattle.nt_const.specs.Tables.{is_negative as negative};
 ghost use Rattle.nt_type_trees.specs.Answers.{TellsBound, TellsDim, TellsDims, both_of, extended, first_of};
 ghost use Rattle.nt_type_trees.specs.Answers.{sized as sized_of};
-ghost use Rattle.nt_value.specs.Digits.{is_one as one_digit};
 
 use nt_ast::Expr;
-use nt_const::{Lookup, constant_by};
+use nt_const::{Lookup, constant_by, counts};
 use nt_diag::{Fault, Refusal, Rule, earlier};
-use nt_value::{Bits, Digit, Place};
+use nt_value::Place;
 use sqlite_items::Items;
 use std::alloc::{AllocError, Global};
 
@@ -40,40 +37,6 @@ fn place(expr: &Expr) -> Place
         Expr::Time { at } => *at,
         Expr::Sign { at, .. } => *at,
     }
-}
-
-fn is_one(digit: Digit) -> bool
-    ensures { result ≡ one_digit digit }
-{
-    match digit {
-        Digit::One => true,
-        Digit::Zero | Digit::X | Digit::Z => false,
-    }
-}
-
-// Whether a number is below 0.
-fn is_negative(a: Bits) -> bool
-    ensures { result ≡ negative a }
-{
-    let leaf = a.leaf();
-    if leaf.signed {
-        is_one(a.digit(leaf.width - 1))
-    } else {
-        false
-    }
-}
-
-// Whether a value is a bound: known, not below 0, and below 2^32.
-fn counts(a: Bits) -> bool
-    ensures { IsTrue result ↔ Counts a }
-{
-    if !a.is_known() {
-        return false;
-    }
-    if is_negative(a) {
-        return false;
-    }
-    a.magnitude() <= u64::from(u32::MAX)
 }
 
 // The first of two faults.
