@@ -3,3 +3,4 @@ pub mod Adding
 pub mod Listing
 pub mod Scoping
 pub mod Paths
+pub mod Finding

@@ -3,3 +3,4 @@ pub mod Parts
 pub mod Units
 pub mod Opened
 pub mod Laws
+pub mod Looks

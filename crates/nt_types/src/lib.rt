@@ -6,8 +6,10 @@ mod laws;
 mod parts;
 mod scopes;
 mod units;
+mod view;
 
 pub use laws::one_path;
 pub use parts::What;
 pub use scopes::Scopes;
 pub use units::Home;
+pub use view::View;
