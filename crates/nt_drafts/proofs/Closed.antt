@@ -34,7 +34,7 @@ binary_is l op first x second y c = ap (λ f. f c) (fold-roll-Draft (Leaf → Tr
 pub same_answer : (r : Result Tree AllocError) (a b : Tree) → a ≡ b → IfOk r (λ z. z ≡ a) → IfOk r (λ z. z ≡ b)
 same_answer r a b e h = subst (λ x. IfOk r (λ z. z ≡ x)) e h
 
-two : {A B C : Type 0} (f : A → B → C) {a c : A} {b d : B} → a ≡ c → b ≡ d → f a b ≡ f c d
+pub two : {A B C : Type 0} (f : A → B → C) {a c : A} {b d : B} → a ≡ c → b ≡ d → f a b ≡ f c d
 two f {a = a} {c = c} {b = b} {d = d} e g = ap (λ a. f a b) e ∙ ap (f c) g
 
 pub unary_closed : (l : Leaf) (op : Unary) (inner : Leaf) (x : Draft) (c operand answer : Leaf) (of tree : Tree)

@@ -1,2 +1,3 @@
 pub mod Become
 pub mod Closed
+pub mod Low

@@ -17,7 +17,8 @@ use Rattle.nt_design.specs.declared.tree.Tree.TheVariants as t
 use Rattle.nt_kinds.specs.declared.kind.Kind.{Kind}
 use Rattle.nt_typing.specs.declared.scope.Scope.{Scope}
 use Rattle.nt_typing.specs.Kinds.{leaf_of}
-use Rattle.nt_typing.specs.Tables.{left_context, right_context, fitted, constant_tree, value, many}
+use Rattle.nt_typing.specs.Tables.{left_context, right_context, fitted, constant_tree}
+use Rattle.nt_typing.specs.declared.thing.Thing.TheVariants.{Value as value, Many as many}
 use Rattle.nt_typing.specs.Typing.{Stands, Alone, Itself}
 use Rattle.nt_drafts.specs.declared.drafts.Draft.{Draft}
 use Rattle.nt_drafts.specs.declared.drafts.Draft.TheOpen.{Draft-F}

@@ -27,7 +27,7 @@ fn unary_tree(alloc: Global, op: Unary, of: Boxed<Tree>) -> Result<Boxed<Tree>, 
     Boxed::new(alloc, Tree::Unary { op, of })
 }
 
-fn binary_tree(
+pub(crate) fn binary_tree(
     alloc: Global,
     op: Binary,
     left: Boxed<Tree>,
@@ -38,7 +38,7 @@ fn binary_tree(
     Boxed::new(alloc, Tree::Binary { op, left, right })
 }
 
-fn choose_tree(
+pub(crate) fn choose_tree(
     alloc: Global,
     test: Boxed<Tree>,
     yes: Boxed<Tree>,

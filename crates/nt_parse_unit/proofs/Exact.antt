@@ -6,13 +6,16 @@ use Rattle.nt_items.specs.declared.item.Item.{Item}
 use Rattle.nt_lexer.specs.declared.kinds.TokenKind.{TokenKind}
 use Rattle.nt_lexer.specs.declared.kinds.TokenKind.TheVariants as k
 use Rattle.nt_lexer.specs.declared.kinds.Token.{Token}
+use Rattle.nt_lexer.specs.Laws.{Ascending}
 use Rattle.nt_read_expr.specs.Tables.{Tokens}
+use Rattle.nt_read_expr.proofs.Places.{front_of}
+use Rattle.nt_read_module.proofs.Places.{source_placed}
 use Rattle.nt_read_expr.specs.Reader.{first}
 use Rattle.nt_read_module.specs.Reader.{source, is_end}
 use Rattle.nt_read_expr.proofs.Basics.{bind_some, some_is, if_some}
 use Rattle.nt_read_module.proofs.Sound.{source_sound}
 use Rattle.nt_read_module.proofs.Complete.{source_complete}
-use Rattle.nt_parse_unit.specs.Readings.{Derives, ends, read_source, OneSource, SourceExactly}
+use Rattle.nt_parse_unit.specs.Readings.{Derives, ends, read_source, OneSource, SourceExactly, EachItemPlace}
 
 end_is : (kind : TokenKind) → is_end kind ≡ true → kind ≡ k.End
 end_is k.End e = refl
@@ -58,3 +61,6 @@ one_only limit ts xs ys d f = some_is xs ys (sym (read_complete limit ts xs d) �
 -- where nothing is read nothing is derived
 pub none_derives : (limit : ℕ) (ts : Tokens) → read_source limit ts ≡ None → (xs : List Item) → Derives limit ts xs → ⊥
 none_derives limit ts e xs d = let q = sym e ∙ read_complete limit ts xs d in absurd cc
+
+pub each_place : EachItemPlace
+each_place limit ts xs d file i j a = source_placed file limit d.derives (front_of file d.front (d.last ∷ []) (subst (Ascending file i j) d.split a))

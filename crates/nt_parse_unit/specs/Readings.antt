@@ -6,6 +6,8 @@ use Rattle.nt_items.specs.declared.item.Units.{Units}
 use Rattle.nt_diag.specs.declared.rule.Rule.TheVariants.{S1, S3}
 use Rattle.nt_diag.specs.declared.refusal.Fault.{Fault}
 use Rattle.nt_diag.specs.declared.refusal.Fault.TheVariants as fault
+use Rattle.nt_items.specs.Places.{ItemsPlaced}
+use Rattle.nt_lexer.specs.Laws.{Ascending}
 use Rattle.nt_lexer.specs.declared.kinds.Word.TheVariants as w
 use Rattle.nt_lexer.specs.declared.kinds.TokenKind.{TokenKind}
 use Rattle.nt_lexer.specs.declared.kinds.TokenKind.TheVariants as k
@@ -47,6 +49,10 @@ Reads ts (Err (fault.Refused r)) =
     ⊎ ((first_left_out ts ≡ None) × ((xs : List Item) → Derives LIMIT ts xs → ⊥) × (r ≡ record { rule = S1; place = file_start ts }))
 Reads ts (Err (fault.OutOfMemory e)) = Unit {0}
 
+-- The items stand in the source as these tokens do, and in their order, where these are in the order of their offsets.
+abbrev pub ItemsPlacedIn : Tokens → List Item → Type 0
+ItemsPlacedIn ts xs = (file i j : ℕ) → Ascending file i j ts → ItemsPlaced file i i j xs
+
 -- ---- the same as a function
 
 -- what follows is the end of the file alone
@@ -65,3 +71,7 @@ OneSource = (limit : ℕ) (ts : Tokens) (xs ys : List Item) → Derives limit ts
 -- the reader finds it exactly where it is
 abbrev pub SourceExactly : Type 0
 SourceExactly = (limit : ℕ) (ts : Tokens) (xs : List Item) → (read_source limit ts ≡ Some xs) ↔ Derives limit ts xs
+
+-- what is derived from tokens in the order of their offsets is so placed
+abbrev pub EachItemPlace : Type 0
+EachItemPlace = (limit : ℕ) (ts : Tokens) (xs : List Item) → Derives limit ts xs → ItemsPlacedIn ts xs

@@ -4,5 +4,5 @@
 mod laws;
 mod text;
 
-pub use laws::{one_source, source_exactly};
+pub use laws::{each_item_place, one_source, source_exactly};
 pub use text::source_text;

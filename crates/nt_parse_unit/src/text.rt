@@ -1,9 +1,9 @@
 // Reading a file.
-ghost use Rattle.std.specs.Prelude.{◌≡◌};
+ghost use Rattle.std.specs.Prelude.{◌≡◌, IfOk};
 ghost use Rattle.nt_read_expr.specs.Gives.{Gives};
 ghost use Rattle.nt_parse_expr.specs.declared.cursor.TheConstants as constants;
 ghost use Rattle.nt_parse_unit.specs.Readings as spec;
-ghost use Rattle.nt_parse_unit.specs.Readings.{Reads};
+ghost use Rattle.nt_parse_unit.specs.Readings.{Reads, ItemsPlacedIn};
 
 use nt_diag::{Fault, Refusal, Rule};
 use nt_items::{Item, Units};
@@ -87,6 +87,7 @@ fn file_start(tokens: &[Token]) -> Place
 /// tokens are no file; `OutOfMemory`.
 pub fn source_text(alloc: Global, tokens: &[Token]) -> Result<Units, Fault>
     ensures reads { Reads tokens.now result }
+    ensures placed { IfOk result (λ units. ItemsPlacedIn tokens.now units.items) }
 {
     if let Some(place) = first_left_out(tokens) {
         return Err(Fault::Refused(Refusal {

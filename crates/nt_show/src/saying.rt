@@ -32,9 +32,9 @@ impl Saying {
     }
 
     /// Says a number in base 10.
-    pub(crate) fn number(&mut self, number: u32) {
+    pub(crate) fn number(&mut self, number: u64) {
         if self.refused.is_none() {
-            let said = self.text.push_number(u64::from(number));
+            let said = self.text.push_number(number);
             self.keep(said);
         }
     }

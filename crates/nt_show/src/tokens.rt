@@ -129,7 +129,7 @@ fn say_kind(kind: &TokenKind, out: &mut Saying) {
         TokenKind::Mark(mark) => out.put(said_mark(*mark)),
         TokenKind::Name(name) => {
             out.put(b"n");
-            out.number(name.items().len() as u32);
+            out.number(name.items().len() as u64);
         }
         TokenKind::System(name) => {
             out.put(b"$");
@@ -147,9 +147,9 @@ fn say_kind(kind: &TokenKind, out: &mut Saying) {
 
 fn say_at(line: u32, column: u32, out: &mut Saying) {
     out.put(b"@");
-    out.number(line);
+    out.number(u64::from(line));
     out.put(b":");
-    out.number(column);
+    out.number(u64::from(column));
     out.put(b" ");
 }
 
@@ -178,10 +178,10 @@ fn said_base(base: Base) -> &'static [u8] {
 
 fn say_head(head: &Head, out: &mut Saying) {
     if let Some(unit) = head.unit {
-        out.number(u32::from(unit.ten));
+        out.number(u64::from(unit.ten));
         out.put(said_base(unit.base));
     }
-    out.number(head.count);
+    out.number(u64::from(head.count));
 }
 
 /// Adds what the tokens of the text are.

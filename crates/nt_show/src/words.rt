@@ -79,7 +79,7 @@ pub(crate) fn say_literal(literal: &Literal, out: &mut Saying) {
     if literal.bits.leaf().signed {
         out.put(b"s");
     }
-    out.number(u32::from(literal.bits.width()));
+    out.number(u64::from(literal.bits.width()));
     out.put(b"b");
     say_digits(literal, out);
 }
@@ -107,7 +107,7 @@ pub(crate) fn say_key(key: &Option<Key>, out: &mut Saying) {
 }
 
 pub(crate) fn begin(at: Place, opening: &[u8], out: &mut Saying) {
-    out.number(at.offset);
+    out.number(u64::from(at.offset));
     out.put(b":");
     out.put(opening);
 }

@@ -14,7 +14,8 @@ use Rattle.nt_design.specs.declared.tree.Tree.TheVariants as t
 use Rattle.nt_kinds.specs.declared.kind.Kind.{Kind}
 use Rattle.nt_typing.specs.declared.scope.Scope.{Scope}
 use Rattle.nt_typing.specs.Kinds.{leaf_of}
-use Rattle.nt_typing.specs.Tables.{wider, fitted, value}
+use Rattle.nt_typing.specs.Tables.{wider, fitted}
+use Rattle.nt_typing.specs.declared.thing.Thing.TheVariants.{Value as value}
 use Rattle.nt_typing.specs.Typing.{Stands, stands, binary, Typed, stands_in, binary_within, Goes, to_leaf}
 use Rattle.nt_typing.proofs.Leaves.{leaf_same}
 use Rattle.nt_typing.proofs.Pieces.{three}

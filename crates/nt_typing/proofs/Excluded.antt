@@ -17,7 +17,8 @@ use Rattle.nt_kinds.specs.declared.kind.Kind.{Kind}
 use Rattle.nt_typing.specs.declared.scope.Callable.{Callable}
 use Rattle.nt_typing.specs.declared.scope.Scope.{Scope}
 use Rattle.nt_typing.specs.Constants.{Constant}
-use Rattle.nt_typing.specs.Tables.{Thing, thing_leaf, member_of, item_of, part_of, indexed_of, size_of, copies, concat_thing, answer_of, given}
+use Rattle.nt_typing.specs.Tables.{thing_leaf, member_of, item_of, part_of, indexed_of, size_of, copies, concat_thing, answer_of, given}
+use Rattle.nt_typing.specs.declared.thing.Thing.{Thing}
 use Rattle.nt_typing.specs.Typing as ty
 use Rattle.nt_typing.specs.Typing.{Stands, Alone, Typed, Itself, itself, Several, none, more, Goes, to_leaf, to_kind, AllGo, none_go, more_go}
 use Rattle.nt_typing.specs.Faults as fa

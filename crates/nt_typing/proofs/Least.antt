@@ -23,7 +23,8 @@ use Rattle.nt_kinds.specs.declared.kind.Kind.{Kind}
 use Rattle.nt_typing.specs.declared.scope.Callable.{Callable}
 use Rattle.nt_typing.specs.declared.scope.Scope.{Scope}
 use Rattle.nt_typing.specs.Names.{meaning_of}
-use Rattle.nt_typing.specs.Tables.{Thing, thing_leaf, member_of, item_of, part_of, indexed_of, size_of, is_unknown, member_place, copies, concat_thing, called, answer_of, given, items_for, other_items, one_item, is_name, with_plan, in_order, by_name, plan_for, all_unkeyed, all_keyed}
+use Rattle.nt_typing.specs.Tables.{thing_leaf, member_of, item_of, part_of, indexed_of, size_of, is_unknown, member_place, copies, concat_thing, called, answer_of, given, items_for, other_items, one_item, is_name, with_plan, in_order, by_name, plan_for, all_unkeyed, all_keyed}
+use Rattle.nt_typing.specs.declared.thing.Thing.{Thing}
 use Rattle.nt_typing.specs.Typing.{Stands}
 use Rattle.nt_typing.specs.Faults as fa
 use Rattle.nt_typing.specs.Faults.{Need, leaf, base, Asked, all_leaf, all_go, asked_of, asked, Wrong, Fault, itself_wrong, in_operand, Among, here, there, Misses, leaf_faulty, leaf_missing, base_faulty, base_missing, inconstant, unmet, not_going, FaultTo, faulty, no_leaf, unlike, no_value, unplanned, in_item}

@@ -17,7 +17,9 @@ use Rattle.nt_typing.specs.Kinds.{plain}
 use Rattle.nt_value.specs.declared.place.Place.{Place}
 use Rattle.nt_typing.specs.declared.scope.Callable.{Callable}
 use Rattle.nt_typing.specs.declared.scope.Scope.{Scope}
-use Rattle.nt_typing.specs.Tables.{left_context, right_context, wider, fitted, constant_tree, Thing, value, many, thing_leaf, member_of, item_of, part_of, indexed_of, size_of, copies, concat_thing, answer_of, given}
+use Rattle.nt_typing.specs.Tables.{left_context, right_context, wider, fitted, constant_tree, thing_leaf, member_of, item_of, part_of, indexed_of, size_of, copies, concat_thing, answer_of, given}
+use Rattle.nt_typing.specs.declared.thing.Thing.{Thing}
+use Rattle.nt_typing.specs.declared.thing.Thing.TheVariants.{Value as value, Many as many}
 use Rattle.nt_typing.specs.Typing.{Stands, read, member, item, part, indexed, concat, repeated, call, size, time, sign, Alone, stands, literal, unary, binary, choose, Typed, stands_in, literal_within, unary_within, binary_within, choose_within, Itself, itself, Several, none, more, Goes, to_leaf, to_kind, pattern, AllGo, none_go, more_go}
 
 pub ap4 : {A B C D E : Type 0} (f : A → B → C → D → E) {a a' : A} {b b' : B} {c c' : C} {d d' : D} → a ≡ a' → b ≡ b' → c ≡ c' → d ≡ d' → f a b c d ≡ f a' b' c' d'

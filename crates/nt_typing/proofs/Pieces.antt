@@ -34,7 +34,9 @@ use Rattle.nt_typing.specs.declared.scope.Inside.{Inside}
 use Rattle.nt_typing.specs.declared.scope.Inside.TheVariants as inside
 use Rattle.nt_kinds.specs.Kinds.{span, leaves, leaves_step}
 use Rattle.nt_typing.specs.Kinds.{leaf_in, leaf_of, plain, Found, found_from}
-use Rattle.nt_typing.specs.Tables.{fitted, constant_tree, Thing, value, many, thing_of, found_member, member_in, member_of, wide, widened, number_tree, less, minus, from_top, indexed_low, part_low, part_width, digits_thing, item_in, item_of, part_in, part_of, indexed_in, indexed_of, size_of, time_in}
+use Rattle.nt_typing.specs.Tables.{fitted, constant_tree, thing_of, found_member, member_in, member_of, wide, widened, number_tree, less, minus, from_top, indexed_low, part_low, part_width, digits_thing, item_in, item_of, part_in, part_of, indexed_in, indexed_of, size_of, time_in}
+use Rattle.nt_typing.specs.declared.thing.Thing.{Thing}
+use Rattle.nt_typing.specs.declared.thing.Thing.TheVariants.{Value as value, Many as many}
 use Rattle.nt_typing.specs.Covers.{IsKind, Has}
 use Rattle.nt_typing.proofs.Opened as opened
 use Rattle.nt_typing.proofs.Leaves.{one_leaves, struct_leaves, array_leaves, found_part, leaf_same, shape_same, each_leaves}

@@ -22,7 +22,8 @@ use Rattle.nt_typing.specs.declared.scope.Callable.{Callable}
 use Rattle.nt_typing.specs.declared.scope.Entity.{Entity}
 use Rattle.nt_typing.specs.declared.scope.Entity.TheVariants as e
 use Rattle.nt_kinds.specs.Kinds.{span, leaves}
-use Rattle.nt_typing.specs.Tables.{Thing, called, answer_of, slots_of, all_unkeyed, items_for, other_items, one_item, with_plan, in_order, by_name, plan_for, planned, given}
+use Rattle.nt_typing.specs.Tables.{called, answer_of, slots_of, all_unkeyed, items_for, other_items, one_item, with_plan, in_order, by_name, plan_for, planned, given}
+use Rattle.nt_typing.specs.declared.thing.Thing.{Thing}
 use Rattle.nt_typing.specs.Covers.{IsKind, IsCallable, Results}
 use Rattle.nt_typing.proofs.Opened as opened
 use Rattle.nt_typing.proofs.Leaves.{struct_leaves, array_leaves, shape_same}

@@ -14,7 +14,9 @@ use Rattle.nt_design.specs.declared.tree.Tree.{Tree}
 use Rattle.nt_kinds.specs.declared.kind.Kind.{Kind}
 use Rattle.nt_typing.specs.declared.scope.Scope.{Scope}
 use Rattle.nt_kinds.specs.Kinds.{leaves}
-use Rattle.nt_typing.specs.Tables.{wider, fitted, Thing, value, many, thing_leaf}
+use Rattle.nt_typing.specs.Tables.{wider, fitted, thing_leaf}
+use Rattle.nt_typing.specs.declared.thing.Thing.{Thing}
+use Rattle.nt_typing.specs.declared.thing.Thing.TheVariants.{Value as value, Many as many}
 use Rattle.nt_typing.specs.Typing.{Stands, read, member, item, part, indexed, concat, repeated, call, size, time, sign, Alone, stands, literal, unary, binary, choose, Typed, stands_in, literal_within, unary_within, binary_within, choose_within, Itself, itself, Several, none, more, Goes, to_leaf, to_kind, pattern, AllGo, none_go, more_go}
 use Rattle.nt_typing.specs.Covers.{IsKind, Covers}
 use Rattle.nt_kinds.proofs.Alike.{one_shape as same_leaves}

@@ -15,7 +15,9 @@ use Rattle.nt_design.specs.Shapes.{Scope as Design, is_width, tree_shape, concat
 use Rattle.nt_design.specs.declared.tree.Tree.{Tree}
 use Rattle.nt_design.specs.declared.tree.Tree.TheVariants as t
 use Rattle.nt_typing.specs.Kinds.{plain}
-use Rattle.nt_typing.specs.Tables.{left_context, right_context, wider, fitted, Thing, value, concat_thing, copies}
+use Rattle.nt_typing.specs.Tables.{left_context, right_context, wider, fitted, concat_thing, copies}
+use Rattle.nt_typing.specs.declared.thing.Thing.{Thing}
+use Rattle.nt_typing.specs.declared.thing.Thing.TheVariants.{Value as value}
 use Rattle.nt_typing.proofs.Opened as opened
 use Rattle.nt_typing.proofs.Leaves.{leaf_same, shape_same}
 use Rattle.nt_typing.proofs.Pieces.{ok_back, clash, on_leaf_to, on_shape_to, so_to, width_back, plain_has, fitted_has, ThingHas}

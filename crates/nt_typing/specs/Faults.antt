@@ -24,7 +24,9 @@ use Rattle.nt_kinds.specs.Kinds.{Equivalent}
 use Rattle.nt_typing.specs.Kinds.{leaf_of}
 use Rattle.nt_typing.specs.Names.{meaning_of}
 use Rattle.nt_typing.specs.Constants.{Constant, Inconstant}
-use Rattle.nt_typing.specs.Tables.{Thing, value, many, thing_leaf, thing_of, member_of, member_place, item_of, part_of, indexed_of, size_of, time_in, copies, concat_thing, called, answer_of, planned, given}
+use Rattle.nt_typing.specs.Tables.{thing_leaf, thing_of, member_of, member_place, item_of, part_of, indexed_of, size_of, time_in, copies, concat_thing, called, answer_of, planned, given}
+use Rattle.nt_typing.specs.declared.thing.Thing.{Thing}
+use Rattle.nt_typing.specs.declared.thing.Thing.TheVariants.{Value as value, Many as many}
 use Rattle.nt_typing.specs.Typing.{Stands, Alone, Itself, Several, AllGo}
 
 -- what is asked of an operand: an integral value; what can be selected from; a constant width, or a bound or count; to go to a type

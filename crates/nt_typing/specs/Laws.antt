@@ -21,7 +21,8 @@ use Rattle.nt_design.specs.declared.tree.Tree.TheVariants as t
 use Rattle.nt_kinds.specs.Kinds.{leaves}
 use Rattle.nt_typing.specs.Kinds.{leaf_of}
 use Rattle.nt_typing.specs.Covers.{IsKind, Covers}
-use Rattle.nt_typing.specs.Tables.{Thing, value}
+use Rattle.nt_typing.specs.declared.thing.Thing.{Thing}
+use Rattle.nt_typing.specs.declared.thing.Thing.TheVariants.{Value as value}
 use Rattle.nt_typing.specs.Typing.{Stands, Alone, Typed, Goes}
 
 -- an expression stands for one thing, has one leaf by itself, one tree in a context, and one as an assignment to a type

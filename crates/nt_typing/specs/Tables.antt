@@ -1,5 +1,5 @@
 -- Leaves of contexts, with the states of an expression's own leaf, and the trees of selects (IEEE 1800-2017, clause 11).
-use Rattle.std.specs.Prelude.{ℕ, zero, suc, nat_eq, ◌+◌, ◌-◌, ◌^◌, ◌==◌, ◌++◌, replicate, nat_lt, nat_le, Bool, true, false, not, ◌&&◌, ◌||◌, if◌then◌else◌, List, [], ◌∷◌, map, length, min, Option, Some, None, Result, Ok, Err}
+use Rattle.std.specs.Prelude.{ℕ, zero, suc, nat_eq, ◌+◌, ◌-◌, ◌%◌, ◌^◌, ◌==◌, ◌++◌, replicate, nat_lt, nat_le, Bool, true, false, not, ◌&&◌, ◌||◌, if◌then◌else◌, List, [], ◌∷◌, map, length, min, Option, Some, None, Result, Ok, Err}
 use Rattle.std.specs.Cmp.Lexicographic.{pointwise}
 use Rattle.nt_value.specs.Digits.{LeafValue}
 use Rattle.nt_value.specs.Operators.{unsigned_leaf}
@@ -27,6 +27,8 @@ use Rattle.nt_typing.specs.declared.scope.Entity.TheVariants as e
 use Rattle.nt_typing.specs.declared.scope.Inside.{Inside}
 use Rattle.nt_typing.specs.declared.scope.Inside.TheVariants as inside
 use Rattle.nt_typing.specs.declared.scope.Callable.{Callable}
+use Rattle.nt_typing.specs.declared.thing.Thing.{Thing}
+use Rattle.nt_typing.specs.declared.thing.Thing.TheVariants.{Value as value, Many as many}
 use Rattle.nt_kinds.specs.Kinds.{span, leaves}
 use Rattle.nt_typing.specs.Kinds.{leaf_of, plain, Found, found_from}
 
@@ -64,11 +66,6 @@ abbrev pub constant_tree : LeafValue → Tree
 constant_tree v = t.Const (v ∷ [])
 
 -- ---- what stands by itself
--- a value of a type with its tree, or a resolver's argument
-pub data Thing : Type 0 where
-  value : Kind → Tree → Thing
-  many : Kind → Thing
-
 abbrev pub thing_leaf : Thing → Option Leaf
 thing_leaf (value kind a) = leaf_of kind
 thing_leaf (many kind) = None
@@ -122,7 +119,7 @@ number_tree four n = constant_tree (record { leaf = wide four; digits = binary 6
 
 -- a number minus another, modulo 2 ^ 64
 abbrev pub less : ℕ → ℕ → ℕ
-less a b = 2 ^ 64 + a - b
+less a b = (a + (2 ^ 64 - b)) % 2 ^ 64
 
 -- an unsigned index of 64 digits may be 2 ^ 63 or more, where it would be read as below 0: it is far outside. Only the
 -- upper digits of `[i +: width]` could come back to the operand

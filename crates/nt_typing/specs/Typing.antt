@@ -24,7 +24,9 @@ use Rattle.nt_kinds.specs.Kinds.{Equivalent}
 use Rattle.nt_typing.specs.Kinds.{leaf_of, plain}
 use Rattle.nt_typing.specs.Names.{meaning_of}
 use Rattle.nt_typing.specs.Constants.{Constant}
-use Rattle.nt_typing.specs.Tables.{left_context, right_context, wider, fitted, constant_tree, Thing, value, thing_leaf, thing_of, member_of, item_of, part_of, indexed_of, size_of, time_in, copies, concat_thing, called, answer_of, planned, given}
+use Rattle.nt_typing.specs.Tables.{left_context, right_context, wider, fitted, constant_tree, thing_leaf, thing_of, member_of, item_of, part_of, indexed_of, size_of, time_in, copies, concat_thing, called, answer_of, planned, given}
+use Rattle.nt_typing.specs.declared.thing.Thing.{Thing}
+use Rattle.nt_typing.specs.declared.thing.Thing.TheVariants.{Value as value}
 
 mutual
   -- what takes nothing from its context: a value of a type with its tree, or a resolver's argument
