@@ -11,6 +11,7 @@ ghost use Rattle.nt_eval.specs.Callable.{MayRun};
 
 use crate::called::{Called, call_within};
 use nt_design::{Design, Env, Stop, Tree};
+use nt_parts::shape_of;
 use nt_value::{Shape, Value};
 use nt_values::{World, value_of};
 use sqlite_items::Items;
@@ -18,17 +19,6 @@ use std::alloc::{AllocError, Global};
 
 // The turns of an event, this project's limit.
 const MOST_TURNS: u32 = 65_536;
-
-// The leaves of a value.
-fn shape_of(alloc: Global, value: &Value) -> Result<Shape, AllocError>
-    ensures { IfOk result (λ shape. shape ≡ shape_of value.now) }
-{
-    let mut leaves = Vec::new(alloc);
-    for bits in value.items() {
-        leaves.push(bits.leaf())?;
-    }
-    Ok(Shape::new(leaves))
-}
 
 // The leaves of the first of some values.
 fn first_shape(alloc: Global, values: &[Value]) -> Result<Shape, AllocError>

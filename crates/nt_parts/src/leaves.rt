@@ -1,11 +1,24 @@
 // Leaves of values, and elements of arrays.
-ghost use Rattle.std.specs.Prelude.{◌≡◌, ◌≤◌, ◌<◌, ◌*◌, ℕ, IfOk, [], IfSome, get_or, length, take};
+ghost use Rattle.nt_value.specs.Digits.{IsFilled};
+ghost use Rattle.std.specs.Prelude.{All, ◌≡◌, ◌≤◌, ◌<◌, ◌*◌, ℕ, IfOk, [], IfSome, get_or, length, take};
 ghost use Rattle.nt_value.specs.Values.{default_value, shape_of};
 ghost use Rattle.nt_design.specs.Parts as parts;
 
 use crate::slices::{after, first_of};
 use nt_value::{Bits, Shape, Value, copy, default_of};
 use std::alloc::{AllocError, Global};
+
+/// The leaves of a value, each of which has its digits.
+pub fn shape_of(alloc: Global, value: &Value) -> Result<Shape, AllocError>
+    ensures shape { IfOk result (λ shape. shape ≡ shape_of value.now) }
+    ensures filled { All IsFilled value.now }
+{
+    let mut leaves = Vec::new(alloc);
+    for bits in value.items() {
+        leaves.push(bits.leaf())?;
+    }
+    Ok(Shape::new(leaves))
+}
 
 /// A copy of the value of this number, or a value without leaves where there is none.
 pub fn value_at(alloc: Global, values: &[Value], at: usize) -> Result<Value, AllocError>

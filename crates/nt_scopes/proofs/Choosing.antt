@@ -7,7 +7,7 @@ use Rattle.nt_scopes.specs.declared.scope.Look.TheVariants as look
 use Rattle.nt_scopes.specs.Choices.{Among, among, Choice, both}
 
 -- two choices of which either may be
-both_choices : (F G : ℕ → Type 0) (a b : Look) → Choice F a → Choice G b → Choice (λ t. F t ⊎ G t) (both a b)
+pub both_choices : (F G : ℕ → Type 0) (a b : Look) → Choice F a → Choice G b → Choice (λ t. F t ⊎ G t) (both a b)
 both_choices F G look.Unknown look.Unknown f g = λ t h. elim h [ inl x ↦ f t x | inr x ↦ g t x ]
 both_choices F G look.Unknown (look.One u) f g = (inr g.0, λ v h. elim h [ inl x ↦ absurd (f v x) | inr x ↦ g.1 v x ])
 both_choices F G look.Unknown look.Ambiguous f g = (g.0, g.1, inr g.2, inr g.3, g.4)
@@ -19,7 +19,7 @@ both_choices F G (look.One t) (look.One u) f g = elim (cases_eq t u) [
 both_choices F G (look.One t) look.Ambiguous f g = (g.0, g.1, inr g.2, inr g.3, g.4)
 both_choices F G look.Ambiguous b f g = (f.0, f.1, inl f.2, inl f.3, f.4)
 
-same_choice : (F G : ℕ → Type 0) (a : Look) → ((t : ℕ) → F t → G t) → ((t : ℕ) → G t → F t) → Choice F a → Choice G a
+pub same_choice : (F G : ℕ → Type 0) (a : Look) → ((t : ℕ) → F t → G t) → ((t : ℕ) → G t → F t) → Choice F a → Choice G a
 same_choice F G look.Unknown to from f = λ t h. f t (from t h)
 same_choice F G (look.One t) to from f = (to t f.0, λ u h. f.1 u (from u h))
 same_choice F G look.Ambiguous to from f = (f.0, f.1, to f.0 f.2, to f.1 f.3, f.4)

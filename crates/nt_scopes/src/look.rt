@@ -31,7 +31,7 @@ fn same(a: &[u8], b: &[u8]) -> bool
 }
 
 // What a scope declares under a name.
-fn held(scope: &Scope, at: Place, name: &Name) -> Option<u32>
+fn held(scope: &Scope, at: Place, name: &Name) -> Option<usize>
     ensures { IsFound (Declares scope.now.names at name.now) result }
 {
     match scope.find(name) {
@@ -89,7 +89,7 @@ fn import_look(scopes: &[Scope], at: Place, name: &Name, wildcard: bool, import:
     if !is_before(import.at, at) {
         return Look::Unknown;
     }
-    let Some(package) = scopes.get(import.package as usize) else {
+    let Some(package) = scopes.get(import.package) else {
         return Look::Unknown;
     };
     match held(package, at, name) {
@@ -145,10 +145,10 @@ pub fn meaning(scopes: &[Scope], chain: &[&Scope], at: Place, name: &Name) -> Lo
 
 /// What `p::name` means at a place: what the package p, told by the number of its scope, declares under the name, where that counts (IEEE
 /// 1800-2017, 26.3). It takes no memory.
-pub fn meaning_of(scopes: &[Scope], number: u32, at: Place, name: &Name) -> Look
+pub fn meaning_of(scopes: &[Scope], number: usize, at: Place, name: &Name) -> Look
     ensures { MeansOf scopes.now at name.now number result }
 {
-    let Some(package) = scopes.get(number as usize) else {
+    let Some(package) = scopes.get(number) else {
         return Look::Unknown;
     };
     match held(package, at, name) {

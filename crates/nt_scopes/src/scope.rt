@@ -15,7 +15,7 @@ use std::marker::Model;
 #[derive(Clone, Copy, Debug)]
 pub struct Entry {
     pub from: Option<Place>,
-    pub number: u32,
+    pub number: usize,
 }
 
 /// `import package::name;`, and `import package::*;` without a name (IEEE 1800-2017, 26.3). The package is told by the number of its
@@ -23,7 +23,7 @@ pub struct Entry {
 #[derive(Drop)]
 pub struct Import {
     pub at: Place,
-    pub package: u32,
+    pub package: usize,
     pub name: Option<Name>,
 }
 
@@ -33,7 +33,7 @@ pub enum Look {
     /// Nothing: T4 (IEEE 1800-2017, 23.9).
     Unknown,
     /// One declaration, by its number.
-    One(u32),
+    One(usize),
     /// What two imports give: T9 (26.3).
     Ambiguous,
 }

@@ -18,7 +18,7 @@ fn declare(
     scope: &mut Scope,
     name: &[u8],
     from: u32,
-    number: u32,
+    number: usize,
 ) -> Result<bool, AllocError> {
     let name = Name::from_slice(alloc, name)?;
     scope.declare(
@@ -34,7 +34,7 @@ fn import(
     alloc: Global,
     scope: &mut Scope,
     offset: u32,
-    package: u32,
+    package: usize,
     name: &[u8],
 ) -> Result<(), AllocError> {
     let name = match name {

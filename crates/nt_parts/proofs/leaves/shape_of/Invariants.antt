@@ -2,7 +2,7 @@ use Rattle.std.proofs.Common.{◌≡◌, take}
 use Rattle.std.specs.Prelude.{All}
 use Rattle.nt_value.specs.Digits.{IsLeaf}
 use Rattle.nt_value.specs.Values.{shape_of}
-use Rattle.nt_eval.proofs.evaluate.shape_of.Given as goal
+use Rattle.nt_parts.proofs.leaves.shape_of.Given as goal
 
 abbrev pub invariant-loop-bits : goal.invariant-loop-bits
 invariant-loop-bits l =

@@ -1,0 +1,10 @@
+//! The shapes of expressions that call no function.
+#![tactic(auto)]
+
+mod forms;
+mod names;
+mod shape;
+
+pub use forms::is_same;
+pub use names::Names;
+pub use shape::{shape_of, shapes_of};
