@@ -16,7 +16,9 @@ use Rattle.nt_const.proofs.Faults.{no_faulty}
 use Rattle.nt_kinds.specs.declared.kind.Kind.{Kind}
 use Rattle.nt_kinds.specs.declared.kind.Kind.TheVariants as kind
 use Rattle.nt_kinds.specs.Kinds.{span, IsSmall}
-use Rattle.nt_type_trees.specs.Types.{TypeNode, TypeName, Dim, Types, Known, IsBound, IsDim, by_bounds, by_size, AreDims, no_dims, more_dims, arrays, IsKind, plain, ranged, ranged_kind, structure, named, IsDeclared, declared, AreMembers, no_members, more_members}
+use Rattle.nt_type_trees.specs.declared.seen.TypeSeen.{TypeSeen}
+use Rattle.nt_type_trees.specs.declared.seen.TypeSeen.TheVariants as seen
+use Rattle.nt_type_trees.specs.Types.{TypeNode, Dim, Types, IsBound, IsDim, by_bounds, by_size, AreDims, no_dims, more_dims, arrays, IsKind, plain, ranged, ranged_kind, structure, named, IsDeclared, declared, AreMembers, no_members, more_members}
 use Rattle.nt_type_trees.specs.Faults.{BoundFault, in_value, no_count, DimFault, in_left, in_right, no_size, DimsFault, in_dim, TypeFault, in_left_bound, in_right_bound, too_wide, in_member, too_large, in_type, no_name, no_type, two_imports, void, DeclaredFault, in_element, in_dims, too_many}
 use Rattle.nt_type_trees.specs.Laws.{OneType}
 
@@ -52,26 +54,15 @@ dim_at (more_dims a b) (suc i) d e = dim_at b i d e
 pub no_dims_fault : {k : Names} {ds : List Dim} {ss : List (ℕ × ℕ)} {r : Refusal} → DimsFault k ds r → AreDims k ds ss → ⊥
 no_dims_fault (in_dim i d e f) a = no_dim f (dim_at a i d e).1
 
-pub known_tree : {a : TypeName} {t u : TypeTree} {ds es : List Dim} → a ≡ Known t ds → a ≡ Known u es → t ≡ u
-known_tree e f = cc
-
-pub known_dims : {a : TypeName} {t u : TypeTree} {ds es : List Dim} → a ≡ Known t ds → a ≡ Known u es → ds ≡ es
-known_dims e f = cc
-
-moved : {k : Names} {ts : Types} {a : TypeName} {t u : TypeTree} {ds es : List Dim} {x : Kind} → a ≡ Known t ds → a ≡ Known u es → IsDeclared k ts u es x → IsDeclared k ts t ds x
-moved {k = k} {ts = ts} {t = t} {u = u} {ds = ds} {es = es} {x = x} e f d =
-    subst (λ t. IsDeclared k ts t ds x) (sym (known_tree e f)) (subst (λ ds. IsDeclared k ts u ds x) (sym (known_dims e f)) d)
-
-pub moved_fault : {k : Names} {ts : Types} {a : TypeName} {t u : TypeTree} {ds es : List Dim} {r : Refusal} → a ≡ Known t ds → a ≡ Known u es → DeclaredFault k ts u es r → DeclaredFault k ts t ds r
-moved_fault {k = k} {ts = ts} {t = t} {u = u} {ds = ds} {es = es} {r = r} e f d =
-    subst (λ t. DeclaredFault k ts t ds r) (sym (known_tree e f)) (subst (λ ds. DeclaredFault k ts u ds r) (sym (known_dims e f)) d)
+known_kind : {a : TypeSeen} {x y : Kind} → a ≡ seen.Known x → a ≡ seen.Known y → x ≡ y
+known_kind e f = cc
 
 mutual
   pub kind_one : {k : Names} {ts : Types} {t : TypeNode} {x y : Kind} → IsKind k ts t x → IsKind k ts t y → x ≡ y
   kind_one (plain at word signed) (plain _ _ _) = refl
   kind_one (ranged at word signed x y a b w) (ranged _ _ _ _ _ c d v) = ap2 (ranged_kind word signed) (bound_one a c) (bound_one b d)
   kind_one (structure at ms small) (structure _ ns little) = ap (kind.Struct at) (members_one ms ns)
-  kind_one (named at path e d) (named _ _ f g) = declared_one d (moved e f g)
+  kind_one (named at path e d) (named _ _ f g) = known_kind e f
 
   pub declared_one : {k : Names} {ts : Types} {t : TypeTree} {dims : List Dim} {x y : Kind} → IsDeclared k ts t dims x → IsDeclared k ts t dims y → x ≡ y
   declared_one (declared a b s) (declared c d u) = ap2 arrays (dims_one b d) (kind_one a c)
@@ -93,7 +84,7 @@ mutual
   no_kind (too_wide at word signed a b w) (ranged _ _ _ _ _ c d v) = w (subst (λ n. IsWidth n) (ap2 span (bound_one c a) (bound_one d b)) v)
   no_kind (in_member at i m e f) (structure _ ms small) = no_declared f (member_at ms i m e).1
   no_kind (too_large at ms n) (structure _ ns small) = n (subst (λ xs. IsSmall (kind.Struct at xs)) (members_one ns ms) small)
-  no_kind (in_type at path e f) (named _ _ g d) = no_declared f (moved e g d)
+  no_kind (in_type r at path e) (named _ _ g d) = cc
   no_kind (no_name at path e) (named _ _ g d) = cc
   no_kind (no_type at path e) (named _ _ g d) = cc
   no_kind (two_imports at path e) (named _ _ g d) = cc

@@ -14,7 +14,7 @@ use Rattle.nt_kinds.specs.declared.kind.Kind.{Kind}
 use Rattle.nt_kinds.specs.declared.kind.Kind.TheVariants as kind
 use Rattle.nt_kinds.specs.Kinds.{span, leaves, member_leaves, IsSmall, IsSound}
 use Rattle.nt_kinds.proofs.Opening.{leaves_one, leaves_struct, leaves_array, levels_one}
-use Rattle.nt_type_trees.specs.Types.{TypeNode, Dim, Types, word_leaf, arrays, IsKind, plain, ranged, structure, named, IsDeclared, declared, AreMembers, no_members, more_members}
+use Rattle.nt_type_trees.specs.Types.{TypeNode, Dim, Types, IsType, word_leaf, arrays, IsKind, plain, ranged, structure, named, IsDeclared, declared, AreMembers, no_members, more_members}
 
 record Valid (x : Kind) : Type 0 where
   leaves_valid : All IsLeaf (leaves x)
@@ -51,7 +51,7 @@ mutual
   valid (plain at word signed) = one_leaf _ _ _ (word_width word)
   valid (ranged at word signed x y a b w) = one_leaf _ _ _ w
   valid (structure {kinds = kinds} at ms s) = record { leaves_valid = subst (λ l. All IsLeaf l) (sym (leaves_struct at kinds)) (members_valid ms); within = s }
-  valid (named at path e d) = declared_valid d
+  valid (named at path e w) = record { leaves_valid = w.valid; within = w.small }
 
   declared_valid : {k : Names} {ts : Types} {t : TypeTree} {dims : List Dim} {x : Kind} → IsDeclared k ts t dims x → Valid x
   declared_valid (declared {x = x} {spans = spans} a b s) = record { leaves_valid = arrays_valid spans x (valid a).leaves_valid; within = s }
@@ -59,6 +59,9 @@ mutual
   members_valid : {k : Names} {ts : Types} {ms : List (TypeTree × Declared)} {xs : List (List ℕ × Kind)} → AreMembers k ts ms xs → All IsLeaf (member_leaves xs)
   members_valid no_members = All-nil IsLeaf
   members_valid (more_members {x = x} {kinds = kinds} a b) = All-append IsLeaf (leaves x) (member_leaves kinds) (declared_valid a).leaves_valid (members_valid b)
+
+pub type_of : {k : Names} {ts : Types} {t : TypeTree} {dims : List Dim} {x : Kind} → IsDeclared k ts t dims x → IsType x
+type_of i = let v = declared_valid i in record { small = v.within; valid = v.leaves_valid }
 
 sound_of : {x : Kind} → Valid x → IsSound x
 sound_of v = record { within = v.within.wide; valid = v.leaves_valid }

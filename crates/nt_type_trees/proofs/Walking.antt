@@ -26,11 +26,11 @@ use Rattle.nt_kinds.specs.Kinds.{span, levels, IsSmall}
 use Rattle.nt_kinds.proofs.Opening.{levels_array}
 use Rattle.nt_kinds.proofs.Counting.{get_left, take_more}
 use Rattle.nt_type_trees.specs.declared.seen.TypeSeen.TheVariants as seen
-use Rattle.nt_type_trees.specs.Types.{TypeNode, type_place, Dim, Types, Known, Other, Unknown, Ambiguous, IsBound, IsDim, by_bounds, by_size, AreDims, no_dims, more_dims, arrays, IsKind, plain, plain_kind, ranged, ranged_kind, structure, named, IsDeclared, declared, AreMembers, no_members, more_members}
+use Rattle.nt_type_trees.specs.Types.{TypeNode, type_place, Dim, Types, IsType, IsBound, IsDim, by_bounds, by_size, AreDims, no_dims, more_dims, arrays, IsKind, plain, plain_kind, ranged, ranged_kind, structure, named, IsDeclared, declared, AreMembers, no_members, more_members}
 use Rattle.nt_type_trees.specs.Faults.{BoundFault, DimFault, in_left, in_right, no_size, DimsFault, in_dim, TypeFault, in_left_bound, in_right_bound, too_wide, in_member, too_large, in_type, no_name, no_type, two_imports, void, DeclaredFault, in_element, in_dims, too_many, MembersFault, member_fault}
-use Rattle.nt_type_trees.specs.Tells.{InOrder, DimsInOrder, AllInOrder, Tells, known, faulty, other, unknown, ambiguous}
+use Rattle.nt_type_trees.specs.Tells.{InOrder, DimsInOrder}
 use Rattle.nt_type_trees.specs.Answers.{Told, gives, refuses, both_of, extended, extended_by, with_name, sized, ranged_of, small, large, Structure, of_members, of_none, Arrays, of_both, of_fault, ExprInOrder, MembersInOrder, TellsBound, TellsDim, TellsDims, TellsKind, TellsDeclared, TellsMembers}
-use Rattle.nt_type_trees.proofs.One.{bound_one, no_bound, no_dims_fault, no_kind, no_declared, no_members_fault, moved_fault}
+use Rattle.nt_type_trees.proofs.One.{bound_one, no_bound, no_dims_fault, no_kind, no_declared, no_members_fault}
 use Rattle.nt_type_trees.proofs.Joining.{told_both, told_as, only_fault}
 use Rattle.nt_type_trees.proofs.Placing.{range_in_order, dim_in_order, struct_in_order}
 
@@ -175,7 +175,7 @@ module _ {k : Names} {ts : Types} where
             (let f : TypeFault k ts t (refusal rule.T2 at) = too_wide at word signed g.0 g.1 (width_out p.0 p.1 e) in
             refuses _ f (λ o s h. only_fault (TypeFault k ts t) _ f (λ s h. only_width at word signed n h) s h))
       ]
-  range_told at word signed (refuses r f l) = refuses r (as_range at word signed f) (λ o s h. l (range_in_order o.1) s (bound_faults f h))
+  range_told at word signed (refuses r f l) = refuses r (as_range at word signed f) (λ o s h. l (range_in_order o) s (bound_faults f h))
 
   pub kind_ranged : {x y : Expr} {a b : Result ℕ Refusal} (at : Place) (word : IntWord) (signed : Option Bool) → TellsBound k x a → TellsBound k y b
       → TellsKind k ts (TypeTree-F.Integral at word signed (Some (x, y))) (ranged_of at word signed (both_of a b))
@@ -185,50 +185,52 @@ module _ {k : Names} {ts : Types} where
   kind_plain at word signed = let i : IsKind k ts (TypeTree-F.Integral at word signed None) (plain_kind word signed) = plain at word signed in gives _ i (λ r f. no_kind f i)
 
   -- ---- a name
-  only_other : {path : Path} {s : Refusal} {at : Place} → ts path ≡ Other → TypeFault k ts (TypeTree-F.Named at path) s → s ≡ refusal rule.T6 path.at
-  only_other e (in_type _ _ f d) = cc
+  only_other : {path : Path} {s : Refusal} {at : Place} → ts path ≡ seen.Other → TypeFault k ts (TypeTree-F.Named at path) s → s ≡ refusal rule.T6 path.at
+  only_other e (in_type r _ _ f) = cc
   only_other e (no_name _ _ f) = cc
   only_other e (no_type _ _ f) = refl
   only_other e (two_imports _ _ f) = cc
 
-  only_unknown : {path : Path} {s : Refusal} {at : Place} → ts path ≡ Unknown → TypeFault k ts (TypeTree-F.Named at path) s → s ≡ refusal rule.T4 path.at
-  only_unknown e (in_type _ _ f d) = cc
+  only_unknown : {path : Path} {s : Refusal} {at : Place} → ts path ≡ seen.Unknown → TypeFault k ts (TypeTree-F.Named at path) s → s ≡ refusal rule.T4 path.at
+  only_unknown e (in_type r _ _ f) = cc
   only_unknown e (no_name _ _ f) = refl
   only_unknown e (no_type _ _ f) = cc
   only_unknown e (two_imports _ _ f) = cc
 
-  only_ambiguous : {path : Path} {s : Refusal} {at : Place} → ts path ≡ Ambiguous → TypeFault k ts (TypeTree-F.Named at path) s → s ≡ refusal rule.T9 path.at
-  only_ambiguous e (in_type _ _ f d) = cc
+  only_ambiguous : {path : Path} {s : Refusal} {at : Place} → ts path ≡ seen.Ambiguous → TypeFault k ts (TypeTree-F.Named at path) s → s ≡ refusal rule.T9 path.at
+  only_ambiguous e (in_type r _ _ f) = cc
   only_ambiguous e (no_name _ _ f) = cc
   only_ambiguous e (no_type _ _ f) = cc
   only_ambiguous e (two_imports _ _ f) = refl
 
-  of_its_type : {path : Path} {t : TypeTree} {dims : List Dim} {s : Refusal} {at : Place} → ts path ≡ Known t dims → TypeFault k ts (TypeTree-F.Named at path) s → DeclaredFault k ts t dims s
-  of_its_type e (in_type _ _ f d) = moved_fault e f d
-  of_its_type e (no_name _ _ f) = cc
-  of_its_type e (no_type _ _ f) = cc
-  of_its_type e (two_imports _ _ f) = cc
+  only_faulty : {path : Path} {r s : Refusal} {at : Place} → ts path ≡ seen.Faulty r → TypeFault k ts (TypeTree-F.Named at path) s → s ≡ r
+  only_faulty e (in_type _ _ _ f) = cc
+  only_faulty e (no_name _ _ f) = cc
+  only_faulty e (no_type _ _ f) = cc
+  only_faulty e (two_imports _ _ f) = cc
 
-  pub kind_known : {path : Path} {x : Kind} (at : Place) → Tells k ts path (seen.Known x) → TellsKind k ts (TypeTree-F.Named at path) (Ok x)
-  kind_known {path = path} at (known x e d) = let i = named at path e d in gives x i (λ r f. no_kind f i)
+  pub kind_known : {path : Path} {x : Kind} (at : Place) → seen.Known x ≡ ts path → IsType x → TellsKind k ts (TypeTree-F.Named at path) (Ok x)
+  kind_known {path = path} {x = x} at e w = let i = named at path (sym e) w in gives x i (λ r f. no_kind f i)
 
-  pub kind_faulty : {path : Path} {r : Refusal} (at : Place) → Tells k ts path (seen.Faulty r) → TellsKind k ts (TypeTree-F.Named at path) (Err r)
-  kind_faulty {path = path} at (faulty r e w) = refuses r (in_type at path e w.is) (λ o s h. w.least o.0 (o.0.types path _ _ e) (o.0.dims path _ _ e) s (of_its_type e h))
+  pub kind_faulty : {path : Path} {r : Refusal} (at : Place) → seen.Faulty r ≡ ts path → TellsKind k ts (TypeTree-F.Named at path) (Err r)
+  kind_faulty {path = path} {r = r} at e =
+      let f : TypeFault k ts (TypeTree-F.Named at path) r = in_type r at path (sym e) in
+      refuses r f (λ o s h. only_fault (TypeFault k ts (TypeTree-F.Named at path)) r f (λ s h. only_faulty (sym e) h) s h)
 
-  pub kind_other : {path : Path} (at : Place) → Tells k ts path seen.Other → TellsKind k ts (TypeTree-F.Named at path) (Err (refusal rule.T6 path.at))
-  kind_other {path = path} at (other e) =
-      let f : TypeFault k ts (TypeTree-F.Named at path) (refusal rule.T6 path.at) = no_type at path e in
-      refuses _ f (λ o s h. only_fault (TypeFault k ts (TypeTree-F.Named at path)) _ f (λ s h. only_other e h) s h)
+  pub kind_other : {path : Path} (at : Place) → seen.Other ≡ ts path → TellsKind k ts (TypeTree-F.Named at path) (Err (refusal rule.T6 path.at))
+  kind_other {path = path} at e =
+      let f : TypeFault k ts (TypeTree-F.Named at path) (refusal rule.T6 path.at) = no_type at path (sym e) in
+      refuses _ f (λ o s h. only_fault (TypeFault k ts (TypeTree-F.Named at path)) _ f (λ s h. only_other (sym e) h) s h)
 
-  pub kind_unknown : {path : Path} (at : Place) → Tells k ts path seen.Unknown → TellsKind k ts (TypeTree-F.Named at path) (Err (refusal rule.T4 path.at))
-  kind_unknown {path = path} at (unknown e) =
-      let f : TypeFault k ts (TypeTree-F.Named at path) (refusal rule.T4 path.at) = no_name at path e in
-      refuses _ f (λ o s h. only_fault (TypeFault k ts (TypeTree-F.Named at path)) _ f (λ s h. only_unknown e h) s h)
+  pub kind_unknown : {path : Path} (at : Place) → seen.Unknown ≡ ts path → TellsKind k ts (TypeTree-F.Named at path) (Err (refusal rule.T4 path.at))
+  kind_unknown {path = path} at e =
+      let f : TypeFault k ts (TypeTree-F.Named at path) (refusal rule.T4 path.at) = no_name at path (sym e) in
+      refuses _ f (λ o s h. only_fault (TypeFault k ts (TypeTree-F.Named at path)) _ f (λ s h. only_unknown (sym e) h) s h)
 
-  pub kind_ambiguous : {path : Path} (at : Place) → Tells k ts path seen.Ambiguous → TellsKind k ts (TypeTree-F.Named at path) (Err (refusal rule.T9 path.at))
-  kind_ambiguous {path = path} at (ambiguous e) =
-      let f : TypeFault k ts (TypeTree-F.Named at path) (refusal rule.T9 path.at) = two_imports at path e in
-      refuses _ f (λ o s h. only_fault (TypeFault k ts (TypeTree-F.Named at path)) _ f (λ s h. only_ambiguous e h) s h)
+  pub kind_ambiguous : {path : Path} (at : Place) → seen.Ambiguous ≡ ts path → TellsKind k ts (TypeTree-F.Named at path) (Err (refusal rule.T9 path.at))
+  kind_ambiguous {path = path} at e =
+      let f : TypeFault k ts (TypeTree-F.Named at path) (refusal rule.T9 path.at) = two_imports at path (sym e) in
+      refuses _ f (λ o s h. only_fault (TypeFault k ts (TypeTree-F.Named at path)) _ f (λ s h. only_ambiguous (sym e) h) s h)
 
   only_void : {s : Refusal} (at : Place) → TypeFault k ts (TypeTree-F.Void at) s → s ≡ refusal rule.T6 at
   only_void at (void _) = refl
@@ -253,7 +255,7 @@ module _ {k : Names} {ts : Types} where
       let f : TypeFault k ts (TypeTree-F.Struct at ms) (refusal rule.T7 at) = too_large at g l in
       refuses _ f (λ o s h. only_fault (TypeFault k ts (TypeTree-F.Struct at ms)) _ f (λ s h. only_large at n h) s h)
   kind_struct at (refuses r (member_fault i m e f) l) (of_none _) =
-      refuses r (in_member at i m e f) (λ o s h. l (o.0, struct_in_order o.1) s (member_faults (member_fault i m e f) h))
+      refuses r (in_member at i m e f) (λ o s h. l (struct_in_order o) s (member_faults (member_fault i m e f) h))
 
   -- ---- a name that is declared
   only_many : {t : TypeTree} {dims : List Dim} {s : Refusal} → ((r : Refusal) → TypeFault k ts (out-TypeTree t) r ⊎ DimsFault k dims r → ⊥) → DeclaredFault k ts t dims s → s ≡ refusal rule.T7 (type_place (out-TypeTree t))
@@ -272,13 +274,13 @@ module _ {k : Names} {ts : Types} where
   as_declared (inr f) = in_dims f
 
   arrays_told : {t : TypeTree} {dims : List Dim} {bs : Result (Kind × List (ℕ × ℕ)) Refusal} {r : Result Kind Refusal} (at : Place) → at ≡ type_place (out-TypeTree t)
-      → Told ((AllInOrder ts × InOrder (out-TypeTree t)) × DimsInOrder dims) (λ (p : Kind × List (ℕ × ℕ)). IsKind k ts (out-TypeTree t) p.0 × AreDims k dims p.1) (λ r. TypeFault k ts (out-TypeTree t) r ⊎ DimsFault k dims r) bs
+      → Told (InOrder (out-TypeTree t) × DimsInOrder dims) (λ (p : Kind × List (ℕ × ℕ)). IsKind k ts (out-TypeTree t) p.0 × AreDims k dims p.1) (λ r. TypeFault k ts (out-TypeTree t) r ⊎ DimsFault k dims r) bs
       → Arrays at bs r → TellsDeclared k ts t dims r
   arrays_told at e (gives p g n) (of_both (small s)) = let i = declared g.0 g.1 s in gives _ i (λ r f. no_declared f i)
   arrays_told {t = t} {dims = dims} at e (gives p g n) (of_both (large l)) =
       let f : DeclaredFault k ts t dims (refusal rule.T7 (type_place (out-TypeTree t))) = too_many g.0 g.1 l in
       subst (λ q. TellsDeclared k ts t dims (Err (refusal rule.T7 q))) (sym e) (refuses _ f (λ o s h. only_fault (DeclaredFault k ts t dims) _ f (λ s h. only_many n h) s h))
-  arrays_told at e (refuses r f l) (of_fault _) = refuses r (as_declared f) (λ o s h. l ((o.0, o.1), o.2) s (part_faults f h))
+  arrays_told at e (refuses r f l) (of_fault _) = refuses r (as_declared f) (λ o s h. l o s (part_faults f h))
 
   pub declared_told : {t : TypeTree} {dims : List Dim} {a : Result Kind Refusal} {b : Result (List (ℕ × ℕ)) Refusal} {r : Result Kind Refusal} (at : Place) → at ≡ type_place (out-TypeTree t)
       → TellsKind k ts (out-TypeTree t) a → TellsDims k dims b → Arrays at (both_of a b) r → TellsDeclared k ts t dims r
@@ -290,7 +292,7 @@ told_named name (gives x g n) = gives (name, x) (refl, g) n
 told_named name (refuses r f l) = refuses r f l
 
 pub record MembersSoFar (k : Names) (ts : Types) (ms : List (TypeTree × Declared)) (i : ℕ) (all : Result (List (List ℕ × Kind)) Refusal) : Type 0 where
-  pub told : Told (AllInOrder ts × MembersInOrder ms) (AreMembers k ts (take i ms)) (MembersFault k ts (take i ms)) all
+  pub told : Told (MembersInOrder ms) (AreMembers k ts (take i ms)) (MembersFault k ts (take i ms)) all
 
 module _ {k : Names} {ts : Types} where
   snoc_members : {ms : List (TypeTree × Declared)} {xs : List (List ℕ × Kind)} {t : TypeTree} {x : Kind} (d : Declared) → AreMembers k ts ms xs → IsDeclared k ts t d.dims x → AreMembers k ts (ms ++ (t, d) ∷ []) (xs ++ (d.name, x) ∷ [])
@@ -323,14 +325,14 @@ module _ {k : Names} {ts : Types} where
       let more = take_more ms i (t, d) lt at in
       let is_at : slice_get ms i ≡ Some (t, d) = slice_get_read ms (length ms) i (t, d) refl lt at in
       record {
-        told = subst (λ es. Told (AllInOrder ts × MembersInOrder ms) (AreMembers k ts es) (MembersFault k ts es) (extended all (with_name d.name one))) (sym more)
+        told = subst (λ es. Told (MembersInOrder ms) (AreMembers k ts es) (MembersFault k ts es) (extended all (with_name d.name one))) (sym more)
             (told_extended
-            (told_as (told_both so.told (told_named d.name w)) (λ o. (o, (o.0, (o.1 i (t, d) is_at).of, (o.1 i (t, d) is_at).dims))) (λ p g. g) (λ r f. f) (λ r f. f))
+            (told_as (told_both so.told (told_named d.name w)) (λ o. (o, ((o i (t, d) is_at).of, (o i (t, d) is_at).dims))) (λ p g. g) (λ r f. f) (λ r f. f))
             (λ p g. snoc_named t d p g.0 (g.1).0 (g.1).1) (λ r f. more_members_fault t d f) (λ r f. members_fault_cases t d f));
       }
 
   pub members_end : {ms : List (TypeTree × Declared)} {i : ℕ} {all : Result (List (List ℕ × Kind)) Refusal} → length ms ≤ i → MembersSoFar k ts ms i all → TellsMembers k ts ms all
-  members_end {ms = ms} {i = i} {all = all} le so = subst (λ es. Told (AllInOrder ts × MembersInOrder ms) (AreMembers k ts es) (MembersFault k ts es) all) (take_whole ms i le) so.told
+  members_end {ms = ms} {i = i} {all = all} le so = subst (λ es. Told (MembersInOrder ms) (AreMembers k ts es) (MembersFault k ts es) all) (take_whole ms i le) so.told
 
 -- ---- many arrays are deep
 levels_of_arrays : (ss : List (ℕ × ℕ)) (x : Kind) → length ss ≤ levels (arrays ss x)

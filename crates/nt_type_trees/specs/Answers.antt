@@ -18,7 +18,7 @@ use Rattle.nt_kinds.specs.declared.kind.Kind.TheVariants as kind
 use Rattle.nt_kinds.specs.Kinds.{span, IsSmall}
 use Rattle.nt_type_trees.specs.Types.{TypeNode, Dim, Types, IsBound, IsDim, AreDims, arrays, ranged_kind, IsKind, IsDeclared, AreMembers}
 use Rattle.nt_type_trees.specs.Faults.{BoundFault, DimFault, DimsFault, TypeFault, DeclaredFault, MembersFault}
-use Rattle.nt_type_trees.specs.Tells.{InOrder, DimsInOrder, AllInOrder}
+use Rattle.nt_type_trees.specs.Tells.{InOrder, DimsInOrder}
 
 -- a value where there is no fault, or a fault, the least where all stands in the order of the source
 pub data Told {A : Type 0} (Ordered : Type 0) (Gives : A → Type 0) (Faulty : Refusal → Type 0) : Result A Refusal → Type 0 where
@@ -63,13 +63,13 @@ abbrev pub TellsDims : Names → List Dim → Result (List (ℕ × ℕ)) Refusal
 TellsDims k ds r = Told (DimsInOrder ds) (AreDims k ds) (DimsFault k ds) r
 
 abbrev pub TellsKind : Names → Types → TypeNode → Result Kind Refusal → Type 0
-TellsKind k ts t r = Told (AllInOrder ts × InOrder t) (IsKind k ts t) (TypeFault k ts t) r
+TellsKind k ts t r = Told (InOrder t) (IsKind k ts t) (TypeFault k ts t) r
 
 abbrev pub TellsDeclared : Names → Types → TypeTree → List Dim → Result Kind Refusal → Type 0
-TellsDeclared k ts t ds r = Told (AllInOrder ts × InOrder (out-TypeTree t) × DimsInOrder ds) (IsDeclared k ts t ds) (DeclaredFault k ts t ds) r
+TellsDeclared k ts t ds r = Told (InOrder (out-TypeTree t) × DimsInOrder ds) (IsDeclared k ts t ds) (DeclaredFault k ts t ds) r
 
 abbrev pub TellsMembers : Names → Types → List (TypeTree × Declared) → Result (List (List ℕ × Kind)) Refusal → Type 0
-TellsMembers k ts ms r = Told (AllInOrder ts × MembersInOrder ms) (AreMembers k ts ms) (MembersFault k ts ms) r
+TellsMembers k ts ms r = Told (MembersInOrder ms) (AreMembers k ts ms) (MembersFault k ts ms) r
 
 -- ---- what the parts of the walk answer
 abbrev pub sized : Place → Result ℕ Refusal → Result (ℕ × ℕ) Refusal

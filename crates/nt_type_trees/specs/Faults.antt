@@ -19,7 +19,8 @@ use Rattle.nt_const.specs.Tells.{Means, refusal}
 use Rattle.nt_kinds.specs.declared.kind.Kind.{Kind}
 use Rattle.nt_kinds.specs.declared.kind.Kind.TheVariants as kind
 use Rattle.nt_kinds.specs.Kinds.{span, IsSmall}
-use Rattle.nt_type_trees.specs.Types.{TypeNode, type_place, Dim, Types, Known, Other, Unknown, Ambiguous, IsBound, AreDims, arrays, IsKind, AreMembers}
+use Rattle.nt_type_trees.specs.declared.seen.TypeSeen.TheVariants as seen
+use Rattle.nt_type_trees.specs.Types.{TypeNode, type_place, Dim, Types, IsBound, AreDims, arrays, IsKind, AreMembers}
 
 -- of a bound: one of a constant expression, or T3 at it
 pub data BoundFault (k : Names) (x : Expr) : Refusal → Type 0 where
@@ -49,12 +50,11 @@ mutual
     -- T7: over 64 leaves, or too deep
     too_large : {ms : List (TypeTree × Declared)} {kinds : List (List ℕ × Kind)} (at : Place)
         → AreMembers k ts ms kinds → (IsSmall (kind.Struct at kinds) → ⊥) → TypeFault k ts (TypeTree-F.Struct at ms) (refusal rule.T7 at)
-    -- what is wrong with the type that a name stands for
-    in_type : {t : TypeTree} {dims : List Dim} {r : Refusal} (at : Place) (path : Path)
-        → ts path ≡ Known t dims → DeclaredFault k ts t dims r → TypeFault k ts (TypeTree-F.Named at path) r
-    no_name : (at : Place) (path : Path) → ts path ≡ Unknown → TypeFault k ts (TypeTree-F.Named at path) (refusal rule.T4 path.at)
-    no_type : (at : Place) (path : Path) → ts path ≡ Other → TypeFault k ts (TypeTree-F.Named at path) (refusal rule.T6 path.at)
-    two_imports : (at : Place) (path : Path) → ts path ≡ Ambiguous → TypeFault k ts (TypeTree-F.Named at path) (refusal rule.T9 path.at)
+    -- what is wrong with the declaration of the type that a name stands for
+    in_type : (r : Refusal) (at : Place) (path : Path) → ts path ≡ seen.Faulty r → TypeFault k ts (TypeTree-F.Named at path) r
+    no_name : (at : Place) (path : Path) → ts path ≡ seen.Unknown → TypeFault k ts (TypeTree-F.Named at path) (refusal rule.T4 path.at)
+    no_type : (at : Place) (path : Path) → ts path ≡ seen.Other → TypeFault k ts (TypeTree-F.Named at path) (refusal rule.T6 path.at)
+    two_imports : (at : Place) (path : Path) → ts path ≡ seen.Ambiguous → TypeFault k ts (TypeTree-F.Named at path) (refusal rule.T9 path.at)
     void : (at : Place) → TypeFault k ts (TypeTree-F.Void at) (refusal rule.T6 at)
 
   pub data DeclaredFault (k : Names) (ts : Types) : TypeTree → List Dim → Refusal → Type 0 where

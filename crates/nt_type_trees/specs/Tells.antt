@@ -5,16 +5,13 @@ use Rattle.nt_diag.specs.declared.refusal.Refusal.{Refusal}
 use Rattle.nt_diag.specs.declared.refusal.Fault.{Fault as Failure}
 use Rattle.nt_diag.specs.declared.refusal.Fault.TheVariants as failure
 use Rattle.nt_diag.specs.Order.{NoLater}
-use Rattle.nt_ast.specs.declared.path.Path.{Path}
 use Rattle.nt_ast.specs.declared.types.TypeTree.{TypeTree}
 use Rattle.nt_ast.specs.declared.types.TypeTree.TheViews.{out-TypeTree}
 use Rattle.nt_ast.specs.Places.{DimsPlaced, TypePlaced}
 use Rattle.nt_const.specs.Rules.{Names}
 use Rattle.nt_kinds.specs.declared.kind.Kind.{Kind}
 use Rattle.nt_kinds.specs.Kinds.{IsSound, leaves}
-use Rattle.nt_type_trees.specs.declared.seen.TypeSeen.{TypeSeen}
-use Rattle.nt_type_trees.specs.declared.seen.TypeSeen.TheVariants as seen
-use Rattle.nt_type_trees.specs.Types.{TypeNode, Dim, Types, Known, Other, Unknown, Ambiguous, IsKind, IsDeclared}
+use Rattle.nt_type_trees.specs.Types.{TypeNode, Dim, Types, IsKind, IsDeclared}
 use Rattle.nt_type_trees.specs.Faults.{TypeFault, DeclaredFault}
 
 -- a type whose nodes stand in the order of the source, and dimensions that do
@@ -30,27 +27,14 @@ pub record DimsInOrder (dims : List Dim) : Type 0 where
   pub end : ℕ
   pub placed : DimsPlaced file first end dims
 
--- so do those of all names
-pub record AllInOrder (ts : Types) : Type 0 where
-  pub types : (path : Path) (t : TypeTree) (dims : List Dim) → ts path ≡ Known t dims → InOrder (out-TypeTree t)
-  pub dims : (path : Path) (t : TypeTree) (dims : List Dim) → ts path ≡ Known t dims → DimsInOrder dims
-
 -- a fault, the least where all stands in the order of the source
 pub record Refuses (k : Names) (ts : Types) (t : TypeNode) (r : Refusal) : Type 0 where
   pub is : TypeFault k ts t r
-  pub least : AllInOrder ts → InOrder t → (s : Refusal) → TypeFault k ts t s → NoLater r s
+  pub least : InOrder t → (s : Refusal) → TypeFault k ts t s → NoLater r s
 
 pub record RefusesDeclared (k : Names) (ts : Types) (t : TypeTree) (dims : List Dim) (r : Refusal) : Type 0 where
   pub is : DeclaredFault k ts t dims r
-  pub least : AllInOrder ts → InOrder (out-TypeTree t) → DimsInOrder dims → (s : Refusal) → DeclaredFault k ts t dims s → NoLater r s
-
--- what is seen of a path: the type of its declaration or the least fault of that, or why it means none
-pub data Tells (k : Names) (ts : Types) (path : Path) : TypeSeen → Type 0 where
-  known : {t : TypeTree} {dims : List Dim} (x : Kind) → ts path ≡ Known t dims → IsDeclared k ts t dims x → Tells k ts path (seen.Known x)
-  faulty : {t : TypeTree} {dims : List Dim} (r : Refusal) → ts path ≡ Known t dims → RefusesDeclared k ts t dims r → Tells k ts path (seen.Faulty r)
-  other : ts path ≡ Other → Tells k ts path seen.Other
-  unknown : ts path ≡ Unknown → Tells k ts path seen.Unknown
-  ambiguous : ts path ≡ Ambiguous → Tells k ts path seen.Ambiguous
+  pub least : InOrder (out-TypeTree t) → DimsInOrder dims → (s : Refusal) → DeclaredFault k ts t dims s → NoLater r s
 
 abbrev pub KindTells : Names → Types → TypeNode → Result Kind Failure → Type 0
 KindTells k ts t (Ok x) = IsKind k ts t x × IsSound x

@@ -1,6 +1,6 @@
 -- Which type a type tree stands for (IEEE 1800-2017, 6.8, 6.11, 6.18, 7.2, 7.4).
-use Rattle.std.specs.Prelude.{◌≡◌, ℕ, ◌-◌, ◌≤◌, Bool, true, false, List, [], ◌∷◌, Option, Some, None}
-use Rattle.nt_value.specs.Digits.{LeafValue}
+use Rattle.std.specs.Prelude.{◌≡◌, ℕ, ◌-◌, ◌≤◌, Bool, true, false, List, [], ◌∷◌, All, Option, Some, None}
+use Rattle.nt_value.specs.Digits.{LeafValue, IsLeaf}
 use Rattle.nt_value.specs.declared.leaf.Leaf.{Leaf}
 use Rattle.nt_value.specs.declared.place.Place.{Place}
 use Rattle.nt_ast.specs.declared.path.Path.{Path}
@@ -17,7 +17,9 @@ use Rattle.nt_const.specs.Rules.{Names}
 use Rattle.nt_const.specs.Tells.{Means}
 use Rattle.nt_kinds.specs.declared.kind.Kind.{Kind}
 use Rattle.nt_kinds.specs.declared.kind.Kind.TheVariants as kind
-use Rattle.nt_kinds.specs.Kinds.{span, IsSmall}
+use Rattle.nt_kinds.specs.Kinds.{span, leaves, IsSmall}
+use Rattle.nt_type_trees.specs.declared.seen.TypeSeen.{TypeSeen}
+use Rattle.nt_type_trees.specs.declared.seen.TypeSeen.TheVariants as seen
 
 -- the first node of a type tree
 abbrev pub TypeNode : Type 0
@@ -34,16 +36,23 @@ type_place (TypeTree-F.Void at) = at
 abbrev pub Dim : Type 0
 Dim = Expr × Option Expr
 
--- what a path means where a type is asked for: a type, by the tree and the dimensions of its declaration; something else; nothing;
--- what two imports give
-pub data TypeName : Type 0 where
-  Known : TypeTree → List Dim → TypeName
-  Other : TypeName
-  Unknown : TypeName
-  Ambiguous : TypeName
-
+-- what is seen of a path where a type is asked for: a type, or the least fault of its declaration; something else; nothing; what two imports
+-- give
 abbrev pub Types : Type 0
-Types = Path → TypeName
+Types = Path → TypeSeen
+
+-- a type that a value may have, within the limits
+pub record IsType (x : Kind) : Type 0 where
+  pub small : IsSmall x
+  pub valid : All IsLeaf (leaves x)
+
+-- what is seen is a type that a value may have, where it is a type
+abbrev pub IsSoundSeen : TypeSeen → Type 0
+IsSoundSeen (seen.Known x) = IsType x
+IsSoundSeen (seen.Faulty r) = Unit {0}
+IsSoundSeen seen.Other = Unit {0}
+IsSoundSeen seen.Unknown = Unit {0}
+IsSoundSeen seen.Ambiguous = Unit {0}
 
 -- the leaf of a word's type, where nothing is written of its sign and its range (6.11)
 abbrev pub word_leaf : IntWord → Leaf
@@ -104,8 +113,7 @@ mutual
     structure : {ms : List (TypeTree × Declared)} {kinds : List (List ℕ × Kind)} (at : Place)
         → AreMembers k ts ms kinds → IsSmall (kind.Struct at kinds) → IsKind k ts (TypeTree-F.Struct at ms) (kind.Struct at kinds)
     -- a name stands for the type of its declaration (6.18)
-    named : {t : TypeTree} {dims : List Dim} {x : Kind} (at : Place) (path : Path)
-        → ts path ≡ Known t dims → IsDeclared k ts t dims x → IsKind k ts (TypeTree-F.Named at path) x
+    named : {x : Kind} (at : Place) (path : Path) → ts path ≡ seen.Known x → IsType x → IsKind k ts (TypeTree-F.Named at path) x
 
   -- the type of a name that is declared with a type and dimensions
   pub data IsDeclared (k : Names) (ts : Types) : TypeTree → List Dim → Kind → Type 0 where

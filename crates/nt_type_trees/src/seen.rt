@@ -1,7 +1,7 @@
 // What a type tree sees of the names in it.
 ghost use Rattle.std.specs.Prelude.{◌≡◌, IfOk};
 ghost use Rattle.nt_type_trees.specs.Types.{Types as Meanings};
-ghost use Rattle.nt_type_trees.specs.Tells.{Tells};
+ghost use Rattle.nt_type_trees.specs.Types.{IsSoundSeen};
 
 use nt_ast::Path;
 use nt_const::Lookup;
@@ -28,7 +28,12 @@ pub enum TypeSeen {
 pub trait Types: Lookup {
     ghost means: { Self → Meanings };
 
-    /// What is seen of a path. Want of memory is the only failure.
+    /// What is seen of a path. A type that is seen is one that a value may have, within the limits.
+    ///
+    /// # Errors
+    ///
+    /// `AllocError` where memory ran out.
     fn type_at(&self, alloc: Global, path: &Path) -> Result<TypeSeen, AllocError>
-        ensures { IfOk result (λ seen. Tells (Self.sees self.now) (means self.now) path.now seen) };
+        ensures seen { IfOk result (λ seen. seen ≡ means self.now path.now) }
+        ensures sound { IfOk result (λ seen. IsSoundSeen seen) };
 }

@@ -18,7 +18,7 @@ use Rattle.nt_scopes.specs.Means.{Names, added, counts, Means, MeansOf}
 use Rattle.nt_type_trees.specs.Types.{type_place}
 use Rattle.nt_types.specs.declared.parts.What.{What}
 use Rattle.nt_types.specs.declared.units.Home.{Home}
-use Rattle.nt_types.specs.Parts.{Part, unit_name, all_parts, inner_parts, names_from}
+use Rattle.nt_types.specs.Parts.{Part, unit_name, parts_of, inner_parts, names_from}
 use Rattle.nt_unit_names.specs.Items.{ItemNode}
 
 -- the items inside a package or module
@@ -55,11 +55,24 @@ all_imports packages items = flat_map (λ x. imports_of packages (out-Item x)) i
 abbrev pub scope_of : List (List ℕ × Entry) → ℕ → List Part → List Item → Names
 scope_of packages n parts items = record { names = names_from [] n parts; imports = all_imports packages items }
 
+-- what is declared has numbers in the order of the source: what an item of the unit declares, and then what is declared in it
+abbrev pub parts_under : Option (List ℕ) → ItemNode → List Part
+parts_under scope x = parts_of scope x ++ inner_parts x
+
+abbrev pub unit_parts : Option (List ℕ) → List Item → List Part
+unit_parts scope unit = flat_map (λ x. parts_under scope (out-Item x)) unit
+
+-- the names of the unit, whose declarations and those in them have the numbers from n on
+abbrev pub unit_names : Option (List ℕ) → List (List ℕ × Entry) → ℕ → List Item → List (List ℕ × Entry)
+unit_names scope names n [] = names
+unit_names scope names n (x ∷ xs) = unit_names scope (names_from names n (parts_of scope (out-Item x))) (n + length (parts_under scope (out-Item x))) xs
+
 -- the scope of each item of the unit: that of what is no package and no module is empty
-abbrev pub inner_scopes : List (List ℕ × Entry) → ℕ → List Item → List Names
-inner_scopes packages n [] = []
-inner_scopes packages n (x ∷ xs) =
-    scope_of packages n (inner_parts (out-Item x)) (inner_items (out-Item x)) ∷ inner_scopes packages (n + length (inner_parts (out-Item x))) xs
+abbrev pub inner_scopes : Option (List ℕ) → List (List ℕ × Entry) → ℕ → List Item → List Names
+inner_scopes scope packages n [] = []
+inner_scopes scope packages n (x ∷ xs) =
+    scope_of packages (n + length (parts_of scope (out-Item x))) (inner_parts (out-Item x)) (inner_items (out-Item x))
+    ∷ inner_scopes scope packages (n + length (parts_under scope (out-Item x))) xs
 
 -- a scope of these parts and of what these items import, and what is added to the list of all that is declared
 pub record IsScope (packages : List (List ℕ × Entry)) (before after : List What) (parts : List Part) (items : List Item) (s : Names) : Type 0 where
@@ -70,10 +83,19 @@ pub record IsScope (packages : List (List ℕ × Entry)) (before after : List Wh
 abbrev pub IsInner : List (List ℕ × Entry) → Item → List What → List What → Names → Type 0
 IsInner packages x before after s = IsScope packages before after (inner_parts (out-Item x)) (inner_items (out-Item x)) s
 
--- the scopes of items, and what is added
-pub record AreInner (packages : List (List ℕ × Entry)) (unit : List Item) (before after : List What) (old new : List Names) : Type 0 where
-  pub scopes : new ≡ old ++ inner_scopes packages (length before) unit
-  pub whats : after ≡ before ++ map (λ p. p.what) (flat_map (λ x. inner_parts (out-Item x)) unit)
+-- what the items of the unit add to its scope, to the scopes in it and to the list of all that is declared
+pub record AreParts (scope : Option (List ℕ)) (packages : List (List ℕ × Entry)) (unit : List Item) (before after : List What) (old new : Names) (olds news : List Names) : Type 0 where
+  pub names : new.names ≡ unit_names scope old.names (length before) unit
+  pub imports : new.imports ≡ old.imports
+  pub scopes : news ≡ olds ++ inner_scopes scope packages (length before) unit
+  pub whats : after ≡ before ++ map (λ p. p.what) (unit_parts scope unit)
+
+-- the scope of the unit, and what is added
+pub record IsUnit (packages : List (List ℕ × Entry)) (unit : List Item) (before after : List What) (olds news : List Names) (s : Names) : Type 0 where
+  pub names : s.names ≡ unit_names unit_name [] (length before) unit
+  pub imports : s.imports ≡ all_imports packages unit
+  pub scopes : news ≡ olds ++ inner_scopes unit_name packages (length before) unit
+  pub whats : after ≡ before ++ map (λ p. p.what) (unit_parts unit_name unit)
 
 -- where an item begins: at or before all names that are used in it
 abbrev pub or_type : Place → Option TypeTree → Place
@@ -114,9 +136,9 @@ pub record UnitScopes : Type 0 where
 abbrev pub scopes_of : List Item → UnitScopes
 scopes_of unit =
     record {
-      scopes = scope_of (packages_of unit) 0 (all_parts unit_name unit) unit ∷ inner_scopes (packages_of unit) (length (all_parts unit_name unit)) unit;
+      scopes = record { names = unit_names unit_name [] 0 unit; imports = all_imports (packages_of unit) unit } ∷ inner_scopes unit_name (packages_of unit) 0 unit;
       packages = packages_of unit;
-      whats = map (λ p. p.what) (all_parts unit_name unit ++ flat_map (λ x. inner_parts (out-Item x)) unit);
+      whats = map (λ p. p.what) (unit_parts unit_name unit);
       homes = homes_from 1 unit;
     }
 

@@ -1,12 +1,12 @@
 // The scopes of units, opened.
-ghost use Rattle.std.specs.Prelude.{◌≡◌, IfOk, None, option_map, slice_get};
+ghost use Rattle.std.specs.Prelude.{◌≡◌, ◌++◌, IfOk, OnOk, None, option_map, slice_get};
 ghost use Rattle.nt_scopes.specs.Means.{Means};
 ghost use Rattle.nt_types.specs.Units.{MeansAt, begins, chain_at, home_in, scope_by, scope_number, scopes_of};
 ghost use Rattle.nt_types.specs.Opened.{Opens, view_of};
 ghost use Rattle.nt_unit_names.specs.Faults.{unit_of};
 
 use crate::parts::What;
-use crate::units::{Home, add_scopes, counts, homes, items_of, packages, unit_scope};
+use crate::units::{Home, counts, homes, items_of, packages, unit_scope};
 use nt_ast::Path;
 use nt_diag::Fault;
 use nt_items::Units;
@@ -29,6 +29,12 @@ pub struct Scopes {
     pub homes: Items<Home>,
 }
 
+fn add_all(all: &mut Vec<Scope>, more: &mut Vec<Scope>) -> Result<(), AllocError>
+    ensures { OnOk result (all.new.items ≡ all.old.items ++ more.old.items) }
+{
+    all.append(more)
+}
+
 fn built(alloc: Global, units: &[Units]) -> Result<Scopes, AllocError>
     ensures { IfOk result (λ s. view_of s ≡ scopes_of (unit_of units.now)) }
 {
@@ -36,10 +42,11 @@ fn built(alloc: Global, units: &[Units]) -> Result<Scopes, AllocError>
     let home = homes(alloc, &unit)?;
     let package = packages(alloc, &unit)?;
     let mut what = Items::new(alloc);
-    let first = unit_scope(alloc, &package, &mut what, &unit)?;
+    let mut inner = Vec::new(alloc);
+    let first = unit_scope(alloc, &package, &mut inner, &mut what, &unit)?;
     let mut all = Vec::new(alloc);
     all.push(first)?;
-    add_scopes(alloc, &package, &mut all, &mut what, &unit)?;
+    add_all(&mut all, &mut inner)?;
     Ok(Scopes {
         scopes: all,
         packages: package,

@@ -4,8 +4,8 @@ ghost use Rattle.nt_ast.specs.declared.types.TypeTree.TheViews.{out-TypeTree};
 ghost use Rattle.nt_items.specs.declared.item.Item.TheViews.{out-Item};
 ghost use Rattle.nt_type_trees.specs.Types.{type_place};
 ghost use Rattle.nt_scopes.specs.Means.{counts as counts_at};
-ghost use Rattle.nt_types.specs.Units.{AreInner, IsInner, IsScope, all_imports, homes_from, import_by, imports_of, package_added, packages_from, packages_of, start_of};
-ghost use Rattle.nt_types.specs.Parts.{Adds, all_parts, param_part, port_part, unit_name};
+ghost use Rattle.nt_types.specs.Units.{AreParts, IsInner, IsScope, IsUnit, all_imports, homes_from, import_by, imports_of, package_added, packages_from, packages_of, start_of};
+ghost use Rattle.nt_types.specs.Parts.{Adds, all_parts, param_part, port_part};
 ghost use Rattle.nt_types.specs.Units.{home_scope as scope_at};
 ghost use Rattle.nt_unit_names.specs.Faults.{unit_of};
 
@@ -291,52 +291,41 @@ fn inner_scope(
     }
 }
 
-// The scopes of packages and modules.
-pub(crate) fn add_scopes(
+// What the items of the unit declare, each before what is declared in it, and the scopes of packages and modules.
+fn add_parts(
     alloc: Global,
     packages: &Scope,
-    scopes: &mut Vec<Scope>,
-    all: &mut Items<What>,
-    unit: &[&Item],
-) -> Result<(), AllocError>
-    ensures { OnOk result (AreInner packages.now.names (map (λ x. x.now) unit.now) all.old all.new scopes.old.items scopes.new.items) }
-{
-    for item in unit {
-        let scope = inner_scope(alloc, packages, all, item)?;
-        scopes.push(scope)?;
-    }
-    Ok(())
-}
-
-// What the items of the unit declare and import.
-pub(crate) fn unit_scope(
-    alloc: Global,
-    packages: &Scope,
-    all: &mut Items<What>,
-    unit: &[&Item],
-) -> Result<Scope, AllocError>
-    ensures { IfOk result (λ s. IsScope packages.now.names all.old all.new (all_parts unit_name (map (λ x. x.now) unit.now)) (map (λ x. x.now) unit.now) s) }
-{
-    let mut scope = Scope::new(alloc);
-    let prefix = Some(Name::from_slice(alloc, b"$unit")?);
-    add_unit(alloc, &mut scope, all, &prefix, unit)?;
-    import_unit(alloc, &mut scope, packages, unit)?;
-    Ok(scope)
-}
-
-fn add_unit(
-    alloc: Global,
-    scope: &mut Scope,
+    first: &mut Scope,
+    inner: &mut Vec<Scope>,
     all: &mut Items<What>,
     prefix: &Option<Name>,
     unit: &[&Item],
 ) -> Result<(), AllocError>
-    ensures { OnOk result (Adds scope.old scope.new all.old all.new (all_parts prefix.now (map (λ x. x.now) unit.now))) }
+    ensures { OnOk result (AreParts prefix.now packages.now.names (map (λ x. x.now) unit.now) all.old all.new first.old first.new inner.old.items inner.new.items) }
 {
     for item in unit {
-        add_item(alloc, scope, all, prefix, item)?;
+        add_item(alloc, first, all, prefix, item)?;
+        let scope = inner_scope(alloc, packages, all, item)?;
+        inner.push(scope)?;
     }
     Ok(())
+}
+
+// The scope of the unit, and those in it.
+pub(crate) fn unit_scope(
+    alloc: Global,
+    packages: &Scope,
+    inner: &mut Vec<Scope>,
+    all: &mut Items<What>,
+    unit: &[&Item],
+) -> Result<Scope, AllocError>
+    ensures { IfOk result (λ s. IsUnit packages.now.names (map (λ x. x.now) unit.now) all.old all.new inner.old.items inner.new.items s) }
+{
+    let mut scope = Scope::new(alloc);
+    let prefix = Some(Name::from_slice(alloc, b"$unit")?);
+    add_parts(alloc, packages, &mut scope, inner, all, &prefix, unit)?;
+    import_unit(alloc, &mut scope, packages, unit)?;
+    Ok(scope)
 }
 
 fn import_unit(

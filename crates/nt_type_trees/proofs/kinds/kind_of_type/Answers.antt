@@ -6,4 +6,4 @@ pub returns-in-Ok : goal.returns-in-Ok
 returns-in-Ok g c = let i = told_value c.in-Ok.kind c.in-Ok.is c.in_ok-kind.ensures in (i, kind_sound i)
 
 pub returns-in-Err : goal.returns-in-Err
-returns-in-Err g c = let w = told_refusal c.in-Err.refusal c.in-Err.is c.in_ok-kind.ensures in record { is = w.is; least = λ a o s f. w.least (a, o) s f }
+returns-in-Err g c = let w = told_refusal c.in-Err.refusal c.in-Err.is c.in_ok-kind.ensures in record { is = w.is; least = w.least }

@@ -1,7 +1,6 @@
 use Rattle.std.proofs.Common.{ap, ◌∙◌, map, ◌++◌, ◌∷◌, []}
-use Rattle.nt_types.specs.Parts.{unit_name}
 use Rattle.nt_types.specs.Units.{packages_of, homes_from}
-use Rattle.nt_types.proofs.Scoping.{whole_told, scope_moved, inner_moved}
+use Rattle.nt_types.proofs.Scoping.{whole_told, unit_moved}
 use Rattle.nt_types.proofs.scopes.built.Goals as goal
 
 pub returns : goal.returns
@@ -11,5 +10,6 @@ returns c =
     whole_told
     (c.in_ok-package.ensures ∙ ap packages_of (ap now c.deref-2.ensures.value ∙ unit))
     (c.in_ok-home.ensures ∙ ap (homes_from 1) (ap now c.deref.ensures.value ∙ unit))
-    (scope_moved unit_name _ _ c.new-what.ensures (ap now c.deref-3.ensures.value ∙ unit) c.in_ok-first.ensures)
-    (inner_moved _ _ (ap now c.deref-4.ensures.value ∙ unit) (c.in_ok-push.ensures.items ∙ ap (λ ss. ss ++ c.in_ok-first.first ∷ []) c.new-all.ensures.items) c.in_ok-add_scopes.ensures)
+    (unit_moved _ _ c.new-what.ensures c.new-inner.ensures.items (ap now c.deref-3.ensures.value ∙ unit) c.in_ok-first.ensures)
+    (c.in_ok-push.ensures.items ∙ ap (λ ss. ss ++ c.in_ok-first.first ∷ []) c.new-all.ensures.items)
+    c.in_ok-add_all.ensures
