@@ -1,0 +1,6 @@
+-- The leaf stays.
+use Rattle.std.proofs.Common.{◌≡◌}
+use Rattle.nt_eval_show.proofs.words.digits.Given as goal
+
+abbrev pub invariant-loop-at : goal.invariant-loop-at
+invariant-loop-at l = l.bits.leaf ≡ l.leaf

@@ -1,0 +1,5 @@
+//! Tests of files, by public calls.
+#![tactic(auto)]
+
+#[cfg(test)]
+mod files;
