@@ -18,7 +18,7 @@ use Rattle.nt_types.specs.declared.parts.What.TheVariants as what
 use Rattle.nt_types.specs.Units.{UnitScopes}
 use Rattle.nt_types.specs.Looks.{seen_at}
 use Rattle.nt_types.proofs.Adding.{take_more, take_whole}
-use Rattle.nt_named_types.specs.Judged.{types_at, IsJudged, a_type, a_fault, AreJudged, more}
+use Rattle.nt_named_types.specs.Judged.{types_at, IsJudged, a_type, a_fault, IsAdded, AreJudged, more}
 
 pub declared_small : {k : Names} {ts : Types} {t : TypeTree} {dims : List Dim} {x : Kind} → IsDeclared k ts t dims x → IsSmall x
 declared_small (declared a b s) = s
@@ -44,3 +44,6 @@ pub fault_judged : {s : UnitScopes} {known : Known} {table : List TypeSeen} {w :
 fault_judged {s = s} {known = known} {table = table} {t = t} {dims = dims} {ds = ds} {r = r} e f g h told =
     subst (λ w. IsJudged s known table w (seen.Faulty r)) (sym (e ∙ ap (λ t. what.Type t dims) (sym f) ∙ ap (λ ds. what.Type t ds) (sym g)))
     (a_fault (subst (λ f. DeclaredTells (seen_at s known) (types_at s table) t ds (Err f)) h told))
+
+pub added_more : {s : UnitScopes} {known : Known} {old new : List TypeSeen} (ws : List What) (i : ℕ) (w : What) → i < length ws → w ≡ get_or ws i w → AreJudged s known (take i ws) old → IsAdded s known w old new → AreJudged s known (take (i + 1) ws) new
+added_more {s = s} {known = known} ws i w lt at all one = subst (λ table. AreJudged s known (take (i + 1) ws) table) (sym one.is) (judged_more ws i w lt at all one.judged)

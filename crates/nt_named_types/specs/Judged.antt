@@ -1,5 +1,5 @@
 -- The types that scopes declare, in their order (IEEE 1800-2017, 6.18): each by those that stand before it.
-use Rattle.std.specs.Prelude.{List, [], ◌∷◌, ◌++◌, slice_get, Option, Some, None}
+use Rattle.std.specs.Prelude.{◌≡◌, List, [], ◌∷◌, ◌++◌, slice_get, Option, Some, None}
 use Rattle.nt_diag.specs.declared.refusal.Refusal.{Refusal}
 use Rattle.nt_ast.specs.declared.path.Path.{Path}
 use Rattle.nt_ast.specs.declared.types.TypeTree.{TypeTree}
@@ -30,12 +30,18 @@ type_look table look.Ambiguous = seen.Ambiguous
 abbrev pub types_at : UnitScopes → List TypeSeen → Path → TypeSeen
 types_at s table path = type_look table (look_at s path)
 
--- what is seen of a declaration by those before it: its type, or the least fault in it
+-- what is seen of a declaration by those before it: its type, or the least fault in it (6.18)
 pub data IsJudged (s : UnitScopes) (known : Known) (table : List TypeSeen) : What → TypeSeen → Type 0 where
   a_type : {of : TypeTree} {dims : List Dim} {x : Kind} → IsDeclared (seen_at s known) (types_at s table) of dims x → IsJudged s known table (what.Type of dims) (seen.Known x)
   a_fault : {of : TypeTree} {dims : List Dim} {r : Refusal} → RefusesDeclared (seen_at s known) (types_at s table) of dims r → IsJudged s known table (what.Type of dims) (seen.Faulty r)
   a_constant : (path : Path) → IsJudged s known table (what.Constant path) seen.Other
   an_other : IsJudged s known table what.Other seen.Other
+
+-- one declaration more
+pub record IsAdded (s : UnitScopes) (known : Known) (w : What) (old new : List TypeSeen) : Type 0 where
+  pub entry : TypeSeen
+  pub judged : IsJudged s known old w entry
+  pub is : new ≡ old ++ entry ∷ []
 
 -- what is seen of declarations, one after the other
 pub data AreJudged (s : UnitScopes) (known : Known) : List What → List TypeSeen → Type 0 where

@@ -1,13 +1,13 @@
 // What is seen of declarations, by their numbers.
 ghost use Rattle.std.specs.Prelude.{◌≡◌, ◌∷◌, ◌++◌, [], IfOk, OnOk, slice_get};
-ghost use Rattle.nt_named_types.specs.Judged.{AreJudged, entry_of};
+ghost use Rattle.nt_named_types.specs.Judged.{AreJudged, IsAdded, entry_of};
 ghost use Rattle.nt_type_trees.specs.Types.{IsSoundSeen};
 ghost use Rattle.nt_types.specs.Opened.{view_of};
 
 use crate::judge::judged;
 use nt_const::Constants;
 use nt_type_trees::TypeSeen;
-use nt_types::Scopes;
+use nt_types::{Scopes, What};
 use sqlite_items::Items;
 use std::alloc::{AllocError, Global};
 use std::marker::Model;
@@ -47,7 +47,8 @@ fn copy_seen(alloc: Global, entry: &TypeSeen) -> Result<TypeSeen, AllocError>
 }
 
 impl Table {
-    fn new(alloc: Global) -> Table
+    /// The table before any declaration.
+    pub fn new(alloc: Global) -> Table
         ensures { result ≡ [] }
     {
         Table {
@@ -62,6 +63,25 @@ impl Table {
         self.seen.push(entry)
     }
 
+    /// One declaration more: what is seen of it by those before it. Who evaluates constants adds each declaration in the order of its
+    /// number, and the value of a constant to those that are known.
+    ///
+    /// # Errors
+    ///
+    /// `AllocError` where memory ran out.
+    pub fn add(
+        &mut self,
+        alloc: Global,
+        scopes: &Scopes,
+        known: &Constants,
+        what: &What,
+    ) -> Result<(), AllocError>
+        ensures { OnOk result (IsAdded (view_of scopes.now) known.now what.now self.old self.new) }
+    {
+        let entry = judged(alloc, scopes, known, self, what)?;
+        self.push(entry)
+    }
+
     /// What is seen of the declarations of scopes, where the values of constants are known.
     ///
     /// # Errors
@@ -72,8 +92,7 @@ impl Table {
     {
         let mut table = Table::new(alloc);
         for what in scopes.whats.as_slice() {
-            let entry = judged(alloc, scopes, known, &table, what)?;
-            table.push(entry)?;
+            table.add(alloc, scopes, known, what)?;
         }
         Ok(table)
     }
