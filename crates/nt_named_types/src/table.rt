@@ -97,6 +97,13 @@ impl Table {
         Ok(table)
     }
 
+    /// What is seen of each declaration, by its number. It takes no memory.
+    pub fn items(&self) -> &[TypeSeen]
+        ensures { result.now ≡ self.now }
+    {
+        self.seen.as_slice()
+    }
+
     // What is seen of a declaration.
     pub(crate) fn see(&self, alloc: Global, number: usize) -> Result<TypeSeen, AllocError>
         ensures seen { IfOk result (λ s. s ≡ entry_of (slice_get self.now number)) }
