@@ -1,5 +1,5 @@
 -- An item is placed as its first node is; items that follow one another.
-use Rattle.std.proofs.Common.{◌≡◌, ℕ, ◌≤◌, Bool, List, [], ◌∷◌, ◌++◌, Option, sym, subst, arith}
+use Rattle.std.proofs.Common.{ℕ, ◌≤◌, Bool, List, ◌++◌, Option, sym, subst, arith}
 use denote.Hole.Carrier.{roll}
 use Rattle.nt_value.specs.declared.place.Place.{Place}
 use Rattle.nt_ast.specs.declared.path.Declared.{Declared}

@@ -5,14 +5,12 @@ use Rattle.nt_ast.specs.declared.path.Path.{Path}
 use Rattle.nt_ast.specs.declared.path.Declared.{Declared}
 use Rattle.nt_ast.specs.declared.expr.Expr.{Expr}
 use Rattle.nt_ast.specs.declared.expr.Expr.TheViews.{out-Expr}
-use Rattle.nt_ast.specs.declared.stmt.Stmt.{Stmt}
 use Rattle.nt_ast.specs.declared.stmt.Stmt.TheViews.{out-Stmt}
 use Rattle.nt_ast.specs.declared.types.IntWord.TheVariants as int
 use Rattle.nt_ast.specs.declared.types.TypeTree.{TypeTree}
 use Rattle.nt_ast.specs.declared.types.TypeTree.TheVariants as t
 use Rattle.nt_ast.specs.declared.types.TypeTree.TheViews.{out-TypeTree}
 use Rattle.nt_ast.specs.Places.{Within, Placed, MaybePlaced, DeclaredPlaced, TypePlaced, StatementPlaced, StatementsPlaced}
-use Rattle.nt_items.specs.declared.item.Way.{Way}
 use Rattle.nt_items.specs.declared.item.PortKind.{PortKind}
 use Rattle.nt_items.specs.declared.item.Port.{Port}
 use Rattle.nt_items.specs.declared.item.Conn.{Conn}

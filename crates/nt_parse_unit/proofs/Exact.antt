@@ -1,5 +1,5 @@
 -- The reader of files finds exactly what the grammar derives.
-use Rattle.std.proofs.Common.{◌≡◌, ℕ, suc, ◌+◌, Bool, true, false, List, [], ◌∷◌, ◌++◌, length, Option, Some, None, refl, sym, ap, ◌∙◌, subst, arith}
+use Rattle.std.proofs.Common.{◌≡◌, ℕ, Bool, true, false, List, [], ◌∷◌, ◌++◌, length, Some, None, refl, sym, ap, ◌∙◌, subst, arith}
 use Rattle.std.specs.Prelude.{◌==◌, if◌then◌else◌}
 use Rattle.std.proofs.lemmas.Bool.{eqb-true}
 use Rattle.nt_items.specs.declared.item.Item.{Item}
@@ -10,12 +10,11 @@ use Rattle.nt_lexer.specs.Laws.{Ascending}
 use Rattle.nt_read_expr.specs.Tables.{Tokens}
 use Rattle.nt_read_expr.proofs.Places.{front_of}
 use Rattle.nt_read_module.proofs.Places.{source_placed}
-use Rattle.nt_read_expr.specs.Reader.{first}
 use Rattle.nt_read_module.specs.Reader.{source, is_end}
 use Rattle.nt_read_expr.proofs.Basics.{bind_some, some_is, if_some}
 use Rattle.nt_read_module.proofs.Sound.{source_sound}
 use Rattle.nt_read_module.proofs.Complete.{source_complete}
-use Rattle.nt_parse_unit.specs.Readings.{Derives, ends, read_source, OneSource, SourceExactly, EachItemPlace}
+use Rattle.nt_parse_unit.specs.Readings.{Derives, ends, read_source, OneSource, EachItemPlace}
 
 end_is : (kind : TokenKind) → is_end kind ≡ true → kind ≡ k.End
 end_is k.End e = refl

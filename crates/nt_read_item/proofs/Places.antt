@@ -1,5 +1,5 @@
 -- What is derived as items from tokens in the order of their offsets has its places in that order.
-use Rattle.std.proofs.Common.{◌≡◌, ℕ, ◌≤◌, Bool, List, [], ◌∷◌, ◌++◌, Option, Some, None, refl, sym, ap, ◌∙◌, subst, arith}
+use Rattle.std.proofs.Common.{ℕ, ◌≤◌, Bool, List, [], ◌∷◌, ◌++◌, Option, Some, None, refl, arith}
 use Rattle.nt_value.specs.declared.place.Place.{Place}
 use Rattle.nt_ast.specs.declared.path.Path.{Path}
 use Rattle.nt_ast.specs.declared.path.Declared.{Declared}
@@ -7,8 +7,7 @@ use Rattle.nt_ast.specs.declared.expr.Expr.{Expr}
 use Rattle.nt_ast.specs.declared.stmt.Stmt.{Stmt}
 use Rattle.nt_ast.specs.declared.types.TypeTree.{TypeTree}
 use Rattle.nt_ast.specs.declared.types.TypeTree.TheViews.{out-TypeTree}
-use Rattle.nt_ast.specs.declared.expr.Expr.TheViews.{out-Expr}
-use Rattle.nt_ast.specs.Places.{Within, Placed, read_in, MaybePlaced, none_in, some_in, no_dims, DeclaredPlaced, no_names, more_names, TypePlaced, void_in, StatementsPlaced, no_statements, more_statements}
+use Rattle.nt_ast.specs.Places.{Within, read_in, MaybePlaced, none_in, some_in, no_dims, DeclaredPlaced, no_names, more_names, TypePlaced, void_in, StatementsPlaced, no_statements, more_statements}
 use Rattle.nt_ast.proofs.Rolled.{read_placed}
 use Rattle.nt_items.specs.declared.item.Conn.{Conn}
 use Rattle.nt_items.specs.declared.item.FunctionItem.{FunctionItem}
@@ -20,18 +19,17 @@ use Rattle.nt_items.proofs.Rolled.{import_placed, typedef_placed, nettype_placed
 use Rattle.nt_lexer.specs.declared.kinds.Token.{Token}
 use Rattle.nt_lexer.specs.Laws.{Ascending}
 use Rattle.nt_read_expr.specs.declared.list.Separator.TheVariants.{Comma}
-use Rattle.nt_read_expr.specs.Tables.{Tokens, start}
-use Rattle.nt_read_expr.specs.Derivation.{Reference}
+use Rattle.nt_read_expr.specs.Tables.{Tokens}
 use Rattle.nt_read_expr.specs.Lists.{MoreOf, no_item, next_item, ListOf, listed}
-use Rattle.nt_read_expr.proofs.Begins.{reference_begins, left_begins, expression_begins}
+use Rattle.nt_read_expr.proofs.Begins.{left_begins, expression_begins}
 use Rattle.nt_read_expr.proofs.Places.{spans, wider, halves, rest_of, front_of, first_in, start_in, from_first, from_start, from_its_start, path_in, expression_placed, left_placed}
 use Rattle.nt_read_stmt.proofs.Places.{statement_placed}
 use Rattle.nt_read_unit.specs.Groups.{Groups, no_group, next_group}
-use Rattle.nt_read_unit.specs.Types.{Named, named, TypeIs, MaybeType}
+use Rattle.nt_read_unit.specs.Types.{Named, named, MaybeType}
 use Rattle.nt_read_unit.proofs.Places.{back_of, dims_placed, named_placed, type_placed, maybe_type_placed, void_placed}
 use Rattle.nt_read_item.specs.Tables.{type_at, plain_name, started}
-use Rattle.nt_read_item.specs.Parts.{MaybeWord, With, no_resolver, with_resolver, Start, no_start, start_value, NamedConn, same_name, left_open, joined_to, Slot, hole, filled, Conns, no_conns, by_order, after_hole, by_name}
-use Rattle.nt_read_item.specs.Functions.{Result, no_value, value_of, Argument, argument, Arguments, no_arguments, arguments, Local, local_var, Body, body, FunctionBody, function_body, NamedFunction, named_function, Function, function}
+use Rattle.nt_read_item.specs.Parts.{With, no_resolver, with_resolver, Start, no_start, start_value, NamedConn, same_name, left_open, joined_to, Slot, hole, filled, Conns, no_conns, by_order, after_hole, by_name}
+use Rattle.nt_read_item.specs.Functions.{Result, no_value, value_of, Argument, argument, Arguments, no_arguments, arguments, Local, local_var, Body, body, function_body, named_function, Function, function}
 use Rattle.nt_read_item.specs.Items.{ImportName, import_one, import_all, Import, imports, ParamName, param_name, Params, params, Typedef, typedef, Nettype, nettype, PackageItem, is_import, is_params, is_typedef, is_nettype, is_function, WireName, wire_name, LinkName, link_name, Nets, wires, links, VarName, var_name, Vars, vars, Set, set, Assigns, assigns, InstanceName, instance_name, MaybeParams, no_params, with_params, Instances, instances, Procedure, procedure, ModuleItem, is_shared, is_nets, is_vars, is_assigns, is_instances, is_procedure}
 
 module _ (file : ℕ) where

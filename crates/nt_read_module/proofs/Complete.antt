@@ -1,8 +1,7 @@
 -- What the grammar derives as a module, a package or a file is read, before what may follow it.
-use Rattle.std.proofs.Common.{inl, inr, subst, ◌≡◌, ℕ, zero, suc, ◌+◌, ◌<◌, ◌≤◌, Bool, true, false, not, List, [], ◌∷◌, ◌++◌, length, drop, Option, Some, None, refl, sym, ap, ◌∙◌, arith, append_assoc, length-append}
+use Rattle.std.proofs.Common.{◌≡◌, ℕ, ◌+◌, ◌<◌, Bool, true, false, not, List, [], ◌∷◌, ◌++◌, length, Option, Some, None, refl, sym, ap, ◌∙◌, arith, append_assoc}
 use Rattle.nt_value.specs.declared.kind.ProcKind.{ProcKind}
 use Rattle.nt_ast.specs.declared.path.Declared.{Declared}
-use Rattle.nt_ast.specs.declared.expr.Expr.{Expr}
 use Rattle.nt_ast.specs.declared.types.TypeTree.{TypeTree}
 use Rattle.nt_items.specs.declared.item.Way.{Way}
 use Rattle.nt_items.specs.declared.item.PortKind.{PortKind}
@@ -17,25 +16,23 @@ use Rattle.nt_lexer.specs.declared.kinds.TokenKind.{TokenKind}
 use Rattle.nt_lexer.specs.declared.kinds.TokenKind.TheVariants as k
 use Rattle.nt_lexer.specs.declared.kinds.Token.{Token}
 use Rattle.nt_read_expr.specs.declared.list.Separator.TheVariants.{Comma}
-use Rattle.nt_read_expr.specs.Tables.{Tokens, start, separates}
-use Rattle.nt_read_expr.specs.Derivation.{Expression}
+use Rattle.nt_read_expr.specs.Tables.{Tokens, separates}
 use Rattle.nt_read_expr.specs.Lists.{MoreOf, no_item, next_item, ListOf, listed}
 use Rattle.nt_read_expr.specs.Reader as x
 use Rattle.nt_read_expr.specs.Reader.{Read, ◌>>=◌, either, first, is_at, expect, below, whole, list_of, is_some}
 use Rattle.nt_read_stmt.specs.Statements.{Label}
-use Rattle.nt_read_stmt.specs.Reader.{is_word_kind, is_word, expect_word, take_name, past_label}
-use Rattle.nt_read_unit.specs.Groups.{Groups, no_group, next_group}
+use Rattle.nt_read_stmt.specs.Reader.{is_word_kind, is_word}
+use Rattle.nt_read_unit.specs.Groups.{Groups}
 use Rattle.nt_read_unit.specs.Types.{Named, MaybeType}
-use Rattle.nt_read_unit.specs.Reader.{groups_of, is_name, named, maybe_type}
-use Rattle.nt_read_item.specs.Tables.{param_of, wire_of, proc_of, plain_name}
-use Rattle.nt_read_item.specs.Parts.{MaybeWord, no_word, one_word}
+use Rattle.nt_read_item.specs.Tables.{param_of, wire_of, proc_of}
+use Rattle.nt_read_item.specs.Parts.{no_word, one_word}
 use Rattle.nt_read_item.specs.Items.{Import, PackageItem, ModuleItem}
 use Rattle.nt_read_item.specs.Reader as ir
 use Rattle.nt_read_module.specs.declared.carried.PortText.{PortText}
 use Rattle.nt_read_module.specs.declared.carried.ParamText.{ParamText}
 use Rattle.nt_read_module.specs.declared.carried.Head.{Head}
 use Rattle.nt_read_module.specs.Tables.{way_of, net_of}
-use Rattle.nt_read_module.specs.Carried.{ports_from, params_from}
+use Rattle.nt_read_module.specs.Carried.{ports_from}
 use Rattle.nt_read_module.specs.Units.{MaybeBy, not_written, written, PortIs, port, ParamIs, param, ParamList, no_param_list, param_list, PortList, no_port_list, no_ports, port_list, HeadIs, head, UnitIs, is_module, is_package, is_item, Source}
 use Rattle.nt_read_module.specs.Reader as r
 use Rattle.nt_read_expr.proofs.Follows.{Follow, at_mark, at_other, expect_mark, follow_mark, false_of, kind_is}
@@ -47,7 +44,7 @@ use Rattle.nt_read_item.specs.Items.{imports, params, typedef, nettype, is_impor
 use Rattle.nt_read_item.specs.Functions.{function}
 use Rattle.nt_read_unit.specs.Types.{named as named_ctor}
 use Rattle.nt_read_unit.proofs.GroupLaws.{Reads as GroupReads, groups_complete}
-use Rattle.nt_read_unit.proofs.Complete.{name_taken, NameFirst, name_by, name_kind, no_dim, mark_no_dim, Elsewhere, elsewhere, named_complete, type_first, maybe_type_first, Bare, bare_by, bare_mark, maybe_type_complete}
+use Rattle.nt_read_unit.proofs.Complete.{name_taken, NameFirst, name_by, no_dim, elsewhere, named_complete, type_first, maybe_type_first, Bare, bare_by, bare_mark, maybe_type_complete}
 use Rattle.nt_read_item.proofs.Complete.{After, after_by, after_no_mark, after_no_name, after_comma, dims_after, flag_complete, imports_complete, Done, package_item_complete, module_item_complete}
 
 -- ---- what items and units begin with

@@ -1,8 +1,7 @@
 -- What is derived as a file from tokens in the order of their offsets has its places in that order.
-use Rattle.std.proofs.Common.{◌≡◌, ℕ, ◌≤◌, Bool, true, false, List, [], ◌∷◌, ◌++◌, Option, Some, None, refl, sym, ap, ◌∙◌, subst, arith}
+use Rattle.std.proofs.Common.{◌≡◌, ℕ, ◌≤◌, Bool, true, false, List, [], ◌∷◌, ◌++◌, Option, Some, None, refl, arith}
 use Rattle.nt_value.specs.declared.place.Place.{Place}
 use Rattle.nt_ast.specs.declared.path.Declared.{Declared}
-use Rattle.nt_ast.specs.declared.types.IntWord.TheVariants as int
 use Rattle.nt_ast.specs.declared.types.TypeTree.{TypeTree}
 use Rattle.nt_ast.specs.declared.types.TypeTree.TheViews.{out-TypeTree}
 use Rattle.nt_ast.specs.Places.{Within, some_in, no_dims, no_range, DeclaredPlaced, no_names, more_names, TypePlaced, integral_in}
@@ -10,10 +9,8 @@ use Rattle.nt_items.specs.declared.item.Way.{Way}
 use Rattle.nt_items.specs.declared.item.PortKind.{PortKind}
 use Rattle.nt_items.specs.declared.item.Port.{Port}
 use Rattle.nt_items.specs.declared.item.Item.{Item}
-use Rattle.nt_items.specs.declared.item.Item.TheViews.{out-Item}
-use Rattle.nt_items.specs.Places.{TypeFor, before, unwritten, MaybeTypePlaced, no_type_in, type_in, PortsPlaced, no_ports_in, more_ports, ParamsPlaced, no_params_in, more_params, ItemPlaced, package_in, module_in, ItemsPlaced, no_items_in, more_items_in}
+use Rattle.nt_items.specs.Places.{TypeFor, before, unwritten, MaybeTypePlaced, no_type_in, type_in, PortsPlaced, no_ports_in, more_ports, ParamsPlaced, no_params_in, more_params, package_in, module_in, ItemsPlaced, no_items_in, more_items_in}
 use Rattle.nt_items.proofs.Rolled.{package_placed, module_placed, items_lower, items_append}
-use Rattle.nt_lexer.specs.declared.kinds.Token.{Token}
 use Rattle.nt_lexer.specs.Laws.{Ascending}
 use Rattle.nt_read_expr.specs.declared.list.Separator.TheVariants.{Comma}
 use Rattle.nt_read_expr.specs.Tables.{Tokens}
@@ -30,7 +27,7 @@ use Rattle.nt_read_module.specs.declared.carried.PortText.{PortText}
 use Rattle.nt_read_module.specs.declared.carried.ParamText.{ParamText}
 use Rattle.nt_read_module.specs.declared.carried.Before.{Before}
 use Rattle.nt_read_module.specs.declared.carried.Head.{Head}
-use Rattle.nt_read_module.specs.Carried.{way_after, kind_after, is_bare_port, own_port, port_by, port_after, of_port, ports_from, is_none, param_type, params_from}
+use Rattle.nt_read_module.specs.Carried.{way_after, kind_after, is_bare_port, own_port, port_by, port_after, of_port, ports_from, param_type, params_from}
 use Rattle.nt_read_module.specs.Units.{PortIs, port, ParamIs, param, ParamList, no_param_list, param_list, PortList, no_port_list, no_ports, port_list, HeadIs, head, UnitIs, is_module, is_package, is_item, Source}
 
 module _ (file lo : ℕ) where

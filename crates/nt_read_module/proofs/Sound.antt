@@ -1,34 +1,22 @@
 -- What is read as a module, a package or a file is derived by the grammar.
-use Rattle.std.proofs.Common.{inl, inr, subst, ◌≡◌, ℕ, zero, suc, ◌+◌, ◌<◌, ◌≤◌, Bool, true, false, not, if◌then◌else◌, List, [], ◌∷◌, ◌++◌, length, drop, Option, Some, None, refl, sym, ap, ◌∙◌, arith, append_assoc, length-append}
-use Rattle.nt_value.specs.declared.kind.ProcKind.{ProcKind}
+use Rattle.std.proofs.Common.{inl, inr, subst, ◌≡◌, ℕ, ◌+◌, if◌then◌else◌, List, [], ◌∷◌, ◌++◌, length, drop, Option, Some, None, refl, sym, ap, ◌∙◌}
 use Rattle.nt_ast.specs.declared.path.Declared.{Declared}
-use Rattle.nt_ast.specs.declared.expr.Expr.{Expr}
 use Rattle.nt_ast.specs.declared.types.TypeTree.{TypeTree}
-use Rattle.nt_items.specs.declared.item.Way.{Way}
-use Rattle.nt_items.specs.declared.item.PortKind.{PortKind}
 use Rattle.nt_items.specs.declared.item.Port.{Port}
 use Rattle.nt_items.specs.declared.item.Item.{Item}
 use Rattle.nt_items.specs.declared.item.Item.TheVariants as i
-use Rattle.nt_lexer.specs.declared.kinds.Mark.{Mark}
 use Rattle.nt_lexer.specs.declared.kinds.Mark.TheVariants as m
-use Rattle.nt_lexer.specs.declared.kinds.Word.{Word}
 use Rattle.nt_lexer.specs.declared.kinds.Word.TheVariants as w
 use Rattle.nt_lexer.specs.declared.kinds.TokenKind.{TokenKind}
 use Rattle.nt_lexer.specs.declared.kinds.TokenKind.TheVariants as k
 use Rattle.nt_lexer.specs.declared.kinds.Token.{Token}
 use Rattle.nt_read_expr.specs.declared.list.Separator.TheVariants.{Comma}
-use Rattle.nt_read_expr.specs.Tables.{Tokens, start, separates}
-use Rattle.nt_read_expr.specs.Derivation.{Expression}
-use Rattle.nt_read_expr.specs.Lists.{ListOf, listed}
-use Rattle.nt_read_expr.specs.Reader as x
-use Rattle.nt_read_expr.specs.Reader.{Read, ◌>>=◌, either, first, is_at, expect, below, whole, list_of, is_some}
-use Rattle.nt_read_stmt.specs.Statements.{Label}
-use Rattle.nt_read_stmt.specs.Reader.{is_word_kind, is_word, expect_word, take_name, past_label}
-use Rattle.nt_read_unit.specs.Groups.{Groups, no_group, next_group}
-use Rattle.nt_read_unit.specs.Types.{Named, MaybeType}
-use Rattle.nt_read_unit.specs.Reader.{groups_of, is_name, named, maybe_type}
-use Rattle.nt_read_item.specs.Tables.{param_of, wire_of, proc_of, plain_name}
-use Rattle.nt_read_item.specs.Parts.{MaybeWord, no_word, one_word}
+use Rattle.nt_read_expr.specs.Tables.{Tokens, start}
+use Rattle.nt_read_expr.specs.Reader.{first, is_at, expect, below, whole, list_of}
+use Rattle.nt_read_stmt.specs.Reader.{is_word, expect_word, take_name, past_label}
+use Rattle.nt_read_unit.specs.Groups.{Groups}
+use Rattle.nt_read_unit.specs.Reader.{groups_of, named, maybe_type}
+use Rattle.nt_read_item.specs.Tables.{plain_name}
 use Rattle.nt_read_item.specs.Items.{Import, PackageItem, ModuleItem}
 use Rattle.nt_read_item.specs.Reader as ir
 use Rattle.nt_read_module.specs.declared.carried.PortText.{PortText}

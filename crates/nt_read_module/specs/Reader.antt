@@ -1,5 +1,5 @@
 -- The same modules, packages and units, as functions that read tokens from the left. The functions of src/ equal these.
-use Rattle.std.specs.Prelude.{ℕ, suc, ◌+◌, Bool, true, false, not, if◌then◌else◌, List, [], ◌∷◌, ◌++◌, length, drop, Option, Some, None}
+use Rattle.std.specs.Prelude.{ℕ, ◌+◌, Bool, true, false, not, if◌then◌else◌, List, [], ◌∷◌, ◌++◌, length, drop, Option, Some, None}
 use Rattle.nt_ast.specs.declared.path.Declared.{Declared}
 use Rattle.nt_ast.specs.declared.types.TypeTree.{TypeTree}
 use Rattle.nt_items.specs.declared.item.Port.{Port}

@@ -1,5 +1,5 @@
 -- What is derived as a type or a declared name from tokens in the order of their offsets has its places in that order.
-use Rattle.std.proofs.Common.{◌≡◌, ℕ, ◌≤◌, Bool, List, [], ◌∷◌, ◌++◌, map, Option, Some, None, refl, sym, ap, ◌∙◌, subst, arith}
+use Rattle.std.proofs.Common.{◌≡◌, ℕ, Bool, List, [], ◌∷◌, ◌++◌, map, Option, Some, None, refl, sym, ap, subst, arith}
 use denote.Hole.Carrier.{roll}
 use Rattle.nt_value.specs.declared.place.Place.{Place}
 use Rattle.nt_ast.specs.declared.path.Path.{Path}
@@ -10,8 +10,7 @@ use Rattle.nt_ast.specs.declared.types.TypeTree.{TypeTree}
 use Rattle.nt_ast.specs.declared.types.TypeTree.TheVariants as t
 use Rattle.nt_ast.specs.declared.types.TypeTree.TheOpen.{TypeTree-F}
 use Rattle.nt_ast.specs.declared.types.TypeTree.TheViews.{out-TypeTree, roll-TypeTree, out-roll-TypeTree}
-use Rattle.nt_ast.specs.Places.{Within, RangePlaced, no_range, range_in, MaybePlaced, none_in, some_in, DimsPlaced, no_dims, more_dims, DeclaredPlaced, no_names, more_names, TypePlaced, integral_in, struct_in, named_in, void_in, MembersPlaced, no_members, more_members}
-use Rattle.nt_lexer.specs.declared.kinds.Token.{Token}
+use Rattle.nt_ast.specs.Places.{Within, RangePlaced, no_range, range_in, none_in, some_in, DimsPlaced, no_dims, more_dims, DeclaredPlaced, no_names, more_names, TypePlaced, integral_in, struct_in, named_in, MembersPlaced, no_members, more_members}
 use Rattle.nt_lexer.specs.Laws.{Ascending}
 use Rattle.nt_read_expr.specs.declared.list.Separator.TheVariants.{Comma}
 use Rattle.nt_read_expr.specs.Tables.{Tokens, start}
@@ -19,7 +18,7 @@ use Rattle.nt_read_expr.specs.Lists.{MoreOf, no_item, next_item, ListOf, listed}
 use Rattle.nt_read_expr.proofs.Begins.{reference_begins}
 use Rattle.nt_read_expr.proofs.Places.{spans, wider, halves, rest_of, front_of, first_in, start_in, from_first, from_its_start, path_in, expression_placed}
 use Rattle.nt_read_unit.specs.Groups.{Groups, no_group, next_group}
-use Rattle.nt_read_unit.specs.Types.{Sign, Range, range, MaybeRange, no_range as not_ranged, some_range, Dim, size, ends, Named, named, Plain, vector, atom, known, MemberName, member_name, Structure, structure, Members, no_member, next_member, Member, member, MemberType, flat, inner, TypeIs, plain_type, struct_type, MaybeType, no_type, some_type, only_sign, only_range}
+use Rattle.nt_read_unit.specs.Types.{Range, range, MaybeRange, no_range as not_ranged, some_range, Dim, size, ends, Named, named, Plain, vector, atom, known, MemberName, member_name, Structure, structure, Members, no_member, next_member, member, MemberType, flat, inner, TypeIs, plain_type, struct_type, MaybeType, some_type, only_sign, only_range}
 
 module _ {file i j : ℕ} where
   rolled : (n : TypeTree-F TypeTree) → TypePlaced file i j n → TypePlaced file i j (out-TypeTree (roll-TypeTree n))
