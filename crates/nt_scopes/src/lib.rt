@@ -9,5 +9,3 @@ pub use laws::one_meaning;
 pub use look::{meaning, meaning_of};
 pub use scope::{Entry, Import, Look, Scope};
 
-#[cfg(test)]
-mod tests;
