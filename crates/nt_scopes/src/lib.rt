@@ -8,4 +8,3 @@ mod scope;
 pub use laws::one_meaning;
 pub use look::{meaning, meaning_of};
 pub use scope::{Entry, Import, Look, Scope};
-
