@@ -223,7 +223,11 @@ def compared(tree):
     leaves = [alone(one) for one in tree.of]
     width, signed = max(leaf[0] for leaf in leaves), all(leaf[1] for leaf in leaves)
     a, b = [within(one, width, signed) for one in tree.of]
-    op = tree.op
+    return compared_digits(tree.op, a, b, signed)
+
+
+def compared_digits(op, a, b, signed):
+    """What a comparison of two operands of one width gives, as one digit (11.4.4 to 11.4.6)."""
     if op in ("===", "!=="):
         return str(int((a == b) == (op == "===")))
     if op in ("==", "!="):

@@ -9,7 +9,7 @@ A line is told in crates/nt_eval_show/README.md: an expression in prefix form, a
 import os
 import sys
 
-from constants import and_of, calculated, digits_of, extended, in_states, is_known, leaf_of, not_of, number, or_of, reduced, truth, xor_of
+from constants import and_of, calculated, compared_digits, digits_of, extended, in_states, is_known, leaf_of, not_of, number, or_of, reduced, truth, xor_of
 
 CASES = os.path.join(os.path.dirname(os.path.abspath(__file__)), "../crates/nt_eval_show/stdout")
 UNARY = {"pos", "neg", "~", "!", "r&", "r~&", "r|", "r~|", "r^", "r~^"}
@@ -47,23 +47,10 @@ def unary(op, value):
     return leaf(1, False, four, not_of(truth(digits)) if op == "!" else reduced(op, digits))
 
 
-def compared(op, a, b, signed):
-    if op in ("===", "!=="):
-        return str(int((a == b) == (op == "===")))
-    if op in ("==", "!="):
-        unlike = [xor_of(x, y) for x, y in zip(a, b)]
-        equal = "0" if "1" in unlike else "x" if "x" in unlike else "1"
-        return equal if op == "==" else not_of(equal)
-    if not is_known(a + b):
-        return "x"
-    x, y = number(a, signed), number(b, signed)
-    return str(int({"<": x < y, "<=": x <= y, ">": x > y, ">=": x >= y}[op]))
-
-
 def binary(op, left, right):
     ((width, signed, four), a), ((_, _, other), b) = left[0], right[0]
     if op in COMPARISONS:
-        return leaf(1, False, four or other, compared(op, a, b, signed))
+        return leaf(1, False, four or other, compared_digits(op, a, b, signed))
     if op in ("&&", "||"):
         return leaf(1, False, four or other, (and_of if op == "&&" else or_of)(truth(a), truth(b)))
     if op in ("<<", ">>", ">>>"):
