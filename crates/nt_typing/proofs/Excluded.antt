@@ -133,7 +133,7 @@ leaf_not_none (ty.binary at op x y a c) b g = elim b [ ]
 leaf_not_none (ty.choose at z x y p a c) b g = elim b [ ]
 
 -- ---- places that must be constant
-no_inconstant : {k : rules.Names} {x : Node} {v : LeafValue} {r : Rule} {p : Place} → rules.Faulty k x r p → Own k x v → ⊥
+pub no_inconstant : {k : rules.Names} {x : Node} {v : LeafValue} {r : Rule} {p : Place} → rules.Faulty k x r p → Own k x v → ⊥
 no_inconstant f (rules.itself x a v) = const.no_faulty a f
 
 -- ---- a fault of an operand

@@ -75,7 +75,7 @@ each_span : {f i j : ℕ} {items : Items} → EachPlaced f i j items → i ≤ j
 each_span (no_items le) = le
 each_span (more_items p s) = let a = spans p in let b = each_span s in omega arith
 
-items_in : {f i j : ℕ} {items : Items} → EachPlaced f i j items → EachIn f i j (item_exprs items)
+pub items_in : {f i j : ℕ} {items : Items} → EachPlaced f i j items → EachIn f i j (item_exprs items)
 items_in (no_items le) = none_in
 items_in (more_items {key = key} {x = x} {xs = xs} p s) = let a = spans p in let b = each_span s in more_in x (item_exprs xs) p (omega arith) b (each_wider (items_in s) (omega arith) (omega arith))
 
@@ -140,7 +140,7 @@ plan_in_by true c slots items plan a h = order_in slots items plan a h
 plan_in_by false true slots items plan a h = name_in slots items plan a h
 plan_in_by false false slots items plan a h = cc
 
-plan_in : {f i j : ℕ} (o : Option Slots) (items : Items) (plan : List (Expr × Kind)) → EachIn f i j (item_exprs items) → plan_for o items ≡ Some plan → EachIn f i j (plan_exprs plan)
+pub plan_in : {f i j : ℕ} (o : Option Slots) (items : Items) (plan : List (Expr × Kind)) → EachIn f i j (item_exprs items) → plan_for o items ≡ Some plan → EachIn f i j (plan_exprs plan)
 plan_in None items plan a h = cc
 plan_in (Some slots) items plan a h = plan_in_by (all_unkeyed items) (all_keyed slots items && nat_le (length (other_items items)) 1) slots items plan a h
 
@@ -149,7 +149,7 @@ leaf_exprs : (xs : List Expr) → exprs (all_leaf xs) ≡ xs
 leaf_exprs [] = refl
 leaf_exprs (x ∷ xs) = ap (λ ys. x ∷ ys) (leaf_exprs xs)
 
-plan_asked : {f i j : ℕ} (plan : List (Expr × Kind)) → EachIn f i j (plan_exprs plan) → EachIn f i j (exprs (all_go plan))
+pub plan_asked : {f i j : ℕ} (plan : List (Expr × Kind)) → EachIn f i j (plan_exprs plan) → EachIn f i j (exprs (all_go plan))
 plan_asked [] a = none_in
 plan_asked (p ∷ plan) (more_in _ _ q lo hi r) = more_in p.0 _ q lo hi (plan_asked plan r)
 
@@ -251,7 +251,7 @@ apart r t p q a b =
     let e : p.file ≡ q.file = a.same ∙ sym b.same in let c = a.below in let d = b.from in
     let lt : p.offset < q.offset = omega arith in inr (e, inl lt)
 
-same : (r : Rule) (p : Place) → NoLater (refusal r p) (refusal r p)
+pub same : (r : Rule) (p : Place) → NoLater (refusal r p) (refusal r p)
 same r p = let le : rule_number r ≤ rule_number r = omega arith in inr (refl, inr (refl, le))
 
 same_as : (r t : Rule) (p q : Place) → r ≡ t → p ≡ q → NoLater (refusal r p) (refusal t q)

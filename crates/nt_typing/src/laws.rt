@@ -1,5 +1,5 @@
 // Laws of the definitions in specs/.
-ghost use Rattle.nt_typing.specs.Laws.{BareCopies, LeastFirst, NoFault, OneTree, ShapesRight};
+ghost use Rattle.nt_typing.specs.Laws.{BareCopies, LeastFirst, LeastOperand, LeastTo, NoFault, OneTree, ShapesRight};
 
 /// An expression has at most one tree.
 pub fn one_tree()
@@ -24,4 +24,14 @@ pub fn bare_copies()
 /// The first fault in the order of the source is the least.
 pub fn least_first()
     ensures { LeastFirst }
+{}
+
+/// What is asked of an operand decides what its least fault is.
+pub fn least_operand()
+    ensures { LeastOperand }
+{}
+
+/// The least fault of what is assigned to a type.
+pub fn least_to()
+    ensures { LeastTo }
 {}

@@ -5,6 +5,8 @@ mod laws;
 mod scope;
 mod thing;
 
-pub use laws::{bare_copies, least_first, no_fault, one_tree, shapes_right};
+pub use laws::{
+    bare_copies, least_first, least_operand, least_to, no_fault, one_tree, shapes_right,
+};
 pub use scope::{Callable, Entity, Inside, Scope};
 pub use thing::Thing;
