@@ -13,7 +13,11 @@ use sqlite_items::Boxed;
 use std::alloc::{AllocError, Global};
 
 /// A constant of one leaf.
-pub(crate) fn constant_tree(alloc: Global, value: Bits) -> Result<Boxed<Tree>, AllocError>
+///
+/// # Errors
+///
+/// `AllocError` alone.
+pub fn constant_tree(alloc: Global, value: Bits) -> Result<Boxed<Tree>, AllocError>
     ensures { IfOk result (λ tree. tree ≡ spec.constant_tree value) }
 {
     let mut leaves = Vec::new(alloc);

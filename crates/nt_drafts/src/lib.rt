@@ -10,8 +10,9 @@ mod operators;
 mod selects;
 mod unfit;
 
-pub use closing::close;
+pub use closing::{close, constant_tree};
 pub use drafts::Draft;
 pub use laws::drafts_become;
-pub use selects::{indexed_of, item_of, part_of};
+pub use operators::fitted;
+pub use selects::{indexed_of, item_of, part_of, plain_kind};
 pub use unfit::Unfit;

@@ -98,7 +98,11 @@ fn resized(alloc: Global, of: Boxed<Tree>, to: Leaf) -> Result<Boxed<Tree>, Allo
 }
 
 /// A tree of one leaf where another is wanted: bare where it is the same.
-pub(crate) fn fitted(
+///
+/// # Errors
+///
+/// `AllocError` alone.
+pub fn fitted(
     alloc: Global,
     from: Size,
     to: Size,

@@ -18,8 +18,12 @@ use nt_value::Leaf;
 use sqlite_items::Boxed;
 use std::alloc::{AllocError, Global};
 
-// An integral type without a declared range.
-fn plain_kind(alloc: Global, size: Size) -> Result<Boxed<Kind>, AllocError>
+/// An integral type without a declared range: its digits count from 0.
+///
+/// # Errors
+///
+/// `AllocError` alone.
+pub fn plain_kind(alloc: Global, size: Size) -> Result<Boxed<Kind>, AllocError>
     ensures { IfOk result (λ kind. kind ≡ plain size) }
 {
     let leaf = size.leaf();

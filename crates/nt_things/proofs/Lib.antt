@@ -1,0 +1,4 @@
+pub mod Using
+pub mod Naming
+pub mod Finding
+pub mod Joining
