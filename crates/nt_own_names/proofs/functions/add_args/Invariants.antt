@@ -1,0 +1,6 @@
+use Rattle.std.proofs.Common.{◌≡◌, ◌++◌, map, take}
+use Rattle.nt_own_names.specs.Twice.{named}
+use Rattle.nt_own_names.proofs.functions.add_args.Given as goal
+
+abbrev pub invariant-loop-kind : goal.invariant-loop-kind
+invariant-loop-kind l = l.all ≡ l.fn.all ++ map (λ a. named a.1) (take l._kind-index l.args)
