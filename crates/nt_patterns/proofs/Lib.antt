@@ -1,0 +1,4 @@
+pub mod Kept
+pub mod Serving
+pub mod Planning
+pub mod Arrays
