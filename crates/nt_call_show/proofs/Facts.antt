@@ -1,8 +1,7 @@
 -- Each function of the cases is one of its design, uses only its own, and calls no other but the next of its chain.
-use Rattle.std.proofs.Common.{◌≡◌, ℕ, suc, List, [], ◌∷◌, map, refl, sym, subst, arith}
+use Rattle.std.proofs.Common.{◌≡◌, ℕ, List, [], ◌∷◌, refl, sym, subst, arith}
 use Rattle.std.proofs.lemmas.List.Elements.{All-nil, All-cons}
 use Rattle.std.specs.Prelude.{All, false, true, Some, None}
-use Rattle.nt_value.specs.declared.leaf.Leaf.{Leaf}
 use Rattle.nt_value.specs.declared.place.Place.{Place}
 use Rattle.nt_design.proofs.Shaped.{false_is}
 use Rattle.nt_design.specs.Rules.{act_fits, is_return, is_nonblocking, is_slot}

@@ -1,6 +1,6 @@
 -- What a fold answers for expressions and statements, by their first node.
-use Rattle.std.proofs.Common.{◌≡◌, ℕ, Bool, List, map, refl}
-use Rattle.std.specs.Prelude.{Option, option_map, Some, None}
+use Rattle.std.proofs.Common.{◌≡◌, ℕ, Bool, List, map}
+use Rattle.std.specs.Prelude.{Option}
 use denote.Hole.Carrier.{roll}
 use Rattle.nt_value.specs.declared.operator.Binary.{Binary}
 use Rattle.nt_value.specs.declared.place.Place.{Place}

@@ -1,11 +1,11 @@
 -- The functions of the cases are those of a well-formed design.
-use Rattle.std.proofs.Common.{◌≡◌, ◌≤◌, ◌<◌, ◌+◌, ℕ, zero, suc, List, [], ◌∷◌, length, map, refl, ap, sym, subst, ◌∙◌, arith}
+use Rattle.std.proofs.Common.{◌≡◌, ◌≤◌, ◌+◌, ℕ, zero, suc, List, [], ◌∷◌, length, map, refl, ap, sym, subst, ◌∙◌, arith}
 use Rattle.std.proofs.lemmas.List.Elements.{All-nil, All-cons, All-contains}
-use Rattle.std.specs.Prelude.{All, Contains, Option, Some, None, get_or, slice_get, true}
+use Rattle.std.specs.Prelude.{All, Contains, Option, Some, None, get_or, slice_get}
 use Rattle.nt_value.specs.Units.{IsUnit}
 use Rattle.nt_value.specs.declared.place.Place.{Place}
 use Rattle.nt_design.proofs.Shaped.{nothing_there, some_back}
-use Rattle.nt_design.specs.Shapes.{Scope, Signature, signature_at}
+use Rattle.nt_design.specs.Shapes.{Signature, signature_at}
 use Rattle.nt_design.specs.WellFormed.{IsChain, IsDesign, IsFunction, IsObject, IsOwn, IsScoped, called_by, design_scope, function_calls, named_objects, signature_of}
 use Rattle.nt_design.specs.declared.design.Design.{Design}
 use Rattle.nt_design.specs.declared.design.Scoped.{Scoped}

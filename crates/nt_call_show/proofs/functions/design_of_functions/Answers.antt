@@ -1,6 +1,4 @@
-use Rattle.std.proofs.Common.{◌∙◌, rules, arith, ◌≡◌}
-use Rattle.nt_value.specs.Units.{IsUnit}
-use Rattle.nt_value.specs.declared.unit.Base.TheVariants.{Ns}
+use Rattle.std.proofs.Common.{rules, arith, ◌≡◌}
 use Rattle.nt_call_show.specs.Functions.{links, place}
 use Rattle.nt_call_show.proofs.Whole.{whole}
 use Rattle.std.specs.Prelude.{[]}
