@@ -11,7 +11,7 @@ use Rattle.nt_ast.specs.declared.expr.Expr.TheViews.{out-Expr}
 use Rattle.nt_design.specs.declared.tree.Tree.{Tree}
 use Rattle.nt_kinds.specs.declared.kind.Kind.{Kind}
 use Rattle.nt_typing.specs.declared.scope.Scope.{Scope}
-use Rattle.nt_typing.specs.Typing.{Itself, itself, Several as All, none, more, Goes, AllGo, none_go, more_go}
+use Rattle.nt_typing.specs.Typing.{Itself, itself, Several as Parts, none, more, Goes, AllGo, none_go, more_go}
 use Rattle.nt_typing.specs.Faults.{Need, leaf, known, count, goes, Asked, all_leaf, all_go}
 use Rattle.nt_typing.specs.Places.{Refuses, RefusesOne}
 use Rattle.nt_typing.proofs.Excluded.{Fit, fit_leaf, fit_constant, fit_goes}
@@ -54,7 +54,7 @@ onward all n four ts = record { width = min (n + all.width) 65; four = all.four 
 
 pub record Adding (s : Scope) (xs : List Expr) (i : ℕ) (all : Several) : Type 0 where
   pub small : all.width ≤ 65
-  pub sums : (n : ℕ) (four : Bool) (ts : List Tree) → All s (drop i xs) n four ts → Summed s xs (onward all n four ts)
+  pub sums : (n : ℕ) (four : Bool) (ts : List Tree) → Parts s (drop i xs) n four ts → Summed s xs (onward all n four ts)
   pub refuses : (r : Refusal) → RefusesOne s (all_leaf (drop i xs)) r → RefusesOne s (all_leaf xs) r
 
 or_assoc : (a b c : Bool) → (a || (b || c)) ≡ ((a || b) || c)
@@ -91,7 +91,7 @@ adding_more s xs i all next x l a e it f h =
       sums = λ n four ts p.
           let c : min (l.width + n + all.width) 65 ≡ min (n + min (l.width + all.width) 65) 65 = omega arith in
           subst (Summed s xs) (several_is _ _ _ _ _ _ c (or_assoc all.four l.four four) (sym (append_assoc all.parts (a ∷ []) ts)))
-          (h.sums (l.width + n) (l.four || four) (a ∷ ts) (subst (λ ys. All s ys (l.width + n) (l.four || four) (a ∷ ts)) (sym e) (more x _ it p)));
+          (h.sums (l.width + n) (l.four || four) (a ∷ ts) (subst (λ ys. Parts s ys (l.width + n) (l.four || four) (a ∷ ts)) (sym e) (more x _ it p)));
       refuses = λ r g. h.refuses r (subst (λ ys. RefusesOne s (all_leaf ys) r) (sym e) (refuse_there leaf x (all_leaf (drop (i + 1) xs)) r (selfed_fit it) g));
     })
 
@@ -100,7 +100,7 @@ adding_done s xs i all le h =
     let small = h.small in
     let c : min (0 + all.width) 65 ≡ all.width = omega arith in
     subst (Summed s xs) (several_is _ _ _ _ _ _ c (or_false all.four) (append_none all.parts))
-    (h.sums 0 false [] (subst (λ ys. All s ys 0 false []) (sym (drop_all i xs le)) none))
+    (h.sums 0 false [] (subst (λ ys. Parts s ys 0 false []) (sym (drop_all i xs le)) none))
 
 pub adding_err : (s : Scope) (xs : List Expr) (i : ℕ) (all : Several) (x : Expr) (f : Failure) → drop i xs ≡ x ∷ drop (i + 1) xs → Lacks leaf s (out-Expr x) f → Adding s xs i all → Severals s xs (Err f)
 adding_err s xs i all x (fault.Refused r) e h w = w.refuses r (subst (λ ys. RefusesOne s (all_leaf ys) r) (sym e) (refuse_here leaf x (all_leaf (drop (i + 1) xs)) r h))

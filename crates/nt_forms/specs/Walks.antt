@@ -21,7 +21,7 @@ use Rattle.nt_const.specs.Tells.{refusal}
 use Rattle.nt_typing.specs.Tables.{called, member_place}
 use Rattle.nt_drafts.specs.declared.unfit.Unfit.{Unfit}
 use Rattle.nt_drafts.specs.declared.unfit.Unfit.TheVariants.{Breaks, OutOfMemory}
-use Rattle.nt_typing.specs.Typing.{Stands, Itself, Several as All, Goes, AllGo}
+use Rattle.nt_typing.specs.Typing.{Stands, Itself, Several as Parts, Goes, AllGo}
 use Rattle.nt_typing.specs.Faults.{Need, leaf, base, known, count, all_leaf, all_go}
 use Rattle.nt_typing.specs.Places.{Refuses, RefusesOne, RefusesOperand, RefusesTo, RefusesSome}
 use Rattle.nt_drafts.specs.Drafts.{DraftOf, draft_leaf}
@@ -96,7 +96,7 @@ MeasuresTo s x (Err f) = Lacks known s x f
 -- several operands: of the sum of the widths all over 64 are one
 pub record Summed (s : Scope) (xs : List Expr) (all : Several) : Type 0 where
   pub width : ℕ
-  pub several : All s xs width all.four all.parts
+  pub several : Parts s xs width all.four all.parts
   pub capped : all.width ≡ min width 65
 
 abbrev pub Severals : Scope → List Expr → Result Several Failure → Type 0
