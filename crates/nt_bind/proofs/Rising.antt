@@ -1,5 +1,5 @@
 -- How faults of operands rise to the node, and what several operands give in a walk over them.
-use Rattle.std.proofs.Common.{◌≡◌, ◌≤◌, ℕ, ◌+◌, ◌++◌, ◌||◌, min, Bool, true, false, List, [], ◌∷◌, length, drop, Err, refl, sym, ap, subst, arith}
+use Rattle.std.proofs.Common.{◌≡◌, ◌≤◌, ℕ, ◌+◌, ◌++◌, ◌||◌, min, Bool, true, false, List, [], ◌∷◌, length, drop, Result, Err, refl, sym, ap, subst, arith}
 use Rattle.std.proofs.lemmas.List.{drop_all, append_assoc}
 use Rattle.nt_value.specs.declared.leaf.Leaf.{Leaf}
 use Rattle.nt_diag.specs.declared.refusal.Fault.{Fault as Failure}
@@ -9,15 +9,17 @@ use Rattle.nt_ast.specs.Places.{Node}
 use Rattle.nt_ast.specs.declared.expr.Expr.{Expr}
 use Rattle.nt_ast.specs.declared.expr.Expr.TheViews.{out-Expr}
 use Rattle.nt_design.specs.declared.tree.Tree.{Tree}
+use Rattle.nt_drafts.specs.declared.drafts.Draft.{Draft}
 use Rattle.nt_kinds.specs.declared.kind.Kind.{Kind}
 use Rattle.nt_typing.specs.declared.scope.Scope.{Scope}
+use Rattle.nt_typing.specs.declared.thing.Thing.{Thing}
 use Rattle.nt_typing.specs.Typing.{Itself, itself, Several as Parts, none, more, Goes, AllGo, none_go, more_go}
 use Rattle.nt_typing.specs.Faults.{Need, leaf, known, count, goes, Asked, all_leaf, all_go}
 use Rattle.nt_typing.specs.Places.{Refuses, RefusesOne}
 use Rattle.nt_typing.proofs.Excluded.{Fit, fit_leaf, fit_constant, fit_goes}
-use Rattle.nt_typing.proofs.Least.{refuse_here, refuse_there}
-use Rattle.nt_typing.proofs.LeastTo.{refuse_going}
-use Rattle.nt_forms.specs.Walks.{Drafts, Lacks, IsLeafed, Counted, Measured, Summed, Severals, Sends, AllSent, grown}
+use Rattle.nt_typing.proofs.Least.{refuse_here, refuse_there, refuse_leaf}
+use Rattle.nt_typing.proofs.LeastTo.{refuse_base, refuse_going}
+use Rattle.nt_forms.specs.Walks.{Drafts, Lacks, Bases, Leafs, IsLeafed, Counted, Measured, Summed, Severals, Sends, AllSent, grown}
 use Rattle.nt_forms.specs.declared.operands.Leafed.{Leafed}
 use Rattle.nt_forms.specs.declared.operands.Several.{Several}
 use Rattle.nt_forms.proofs.Asking.{alone_of}
@@ -130,3 +132,15 @@ pub sending_err : (s : Scope) (plan : List (Expr × Kind)) (i : ℕ) (ts : List 
     → AllSent s plan (Err f)
 sending_err s plan i ts x k (fault.Refused r) e h w = w.refuses r (subst (λ ys. RefusesOne s (all_go ys) r) (sym e) (refuse_here (goes k) x (all_go (drop (i + 1) plan)) r (refuse_going k (out-Expr x) r h)))
 sending_err s plan i ts x k (fault.OutOfMemory o) e h w = tt
+
+-- ---- the exit of a `?`
+pub drafts_err : (s : Scope) (x : Node) (r : Result Draft Failure) (f : Failure) → r ≡ Err f → Drafts s x (Err f) → Drafts s x r
+drafts_err s x r f e h = subst (λ r. Drafts s x r) (sym e) h
+
+pub bases_err : (s : Scope) (x : Node) (r : Result Thing Failure) (f : Failure) → r ≡ Err f → Drafts s x (Err f) → Bases s x r
+bases_err s x r (fault.Refused e) g h = subst (λ r. Bases s x r) (sym g) (refuse_base x e h)
+bases_err s x r (fault.OutOfMemory o) g h = subst (λ r. Bases s x r) (sym g) tt
+
+pub leafs_err : (s : Scope) (x : Node) (r : Result Leafed Failure) (f : Failure) → r ≡ Err f → Drafts s x (Err f) → Leafs s x r
+leafs_err s x r (fault.Refused e) g h = subst (λ r. Leafs s x r) (sym g) (refuse_leaf x e h)
+leafs_err s x r (fault.OutOfMemory o) g h = subst (λ r. Leafs s x r) (sym g) tt

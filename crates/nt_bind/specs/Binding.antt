@@ -1,5 +1,5 @@
 -- What an expression is bound to: its typed tree, or its least fault.
-use Rattle.std.specs.Prelude.{false, Option, Some, None, Result, Ok, Err}
+use Rattle.std.specs.Prelude.{◌≤◌, false, Option, Some, None, Result, Ok, Err}
 use Rattle.nt_value.specs.declared.leaf.Leaf.{Leaf}
 use Rattle.nt_diag.specs.declared.refusal.Fault.{Fault as Failure}
 use Rattle.nt_diag.specs.declared.refusal.Fault.TheVariants as fault
@@ -12,6 +12,7 @@ use Rattle.nt_typing.specs.Typing.{Binds}
 use Rattle.nt_typing.specs.Places.{RefusesBinding}
 use Rattle.nt_drafts.specs.declared.drafts.Draft.{Draft}
 use Rattle.nt_drafts.specs.declared.drafts.Draft.TheOpen.{Draft-F}
+use Rattle.nt_forms.specs.declared.operands.Several.{Several}
 
 -- with a type as an assignment to it, else by itself
 abbrev pub BindsTo : Scope → Node → Option Kind → Result Tree Failure → Type 0
@@ -28,3 +29,8 @@ own_context (Draft-F.Literal l v) = Some l
 own_context (Draft-F.Unary l op inner x) = Some l
 own_context (Draft-F.Binary l op first x second y) = Some l
 own_context (Draft-F.Choose l test x y) = Some l
+
+-- of a sum of widths all over 64 are one
+abbrev pub IsNarrow : Result Several Failure → Type 0
+IsNarrow (Ok all) = all.width ≤ 65
+IsNarrow (Err f) = Unit {0}
