@@ -3,6 +3,8 @@
 
 mod arms;
 mod bound;
+mod gather;
 mod needs;
+mod walk;
 
 pub use bound::{bind_alone, bind_sent};
