@@ -1,11 +1,15 @@
 -- How faults of operands rise to the node, and what several operands give in a walk over them.
-use Rattle.std.proofs.Common.{◌≡◌, ◌≤◌, ℕ, ◌+◌, ◌++◌, ◌||◌, min, Bool, true, false, List, [], ◌∷◌, length, drop, Result, Err, refl, sym, ap, subst, arith}
+use Rattle.std.proofs.Common.{◌≡◌, ◌≤◌, ℕ, ◌+◌, ◌++◌, ◌||◌, min, Bool, true, false, List, [], ◌∷◌, length, drop, Option, Some, Result, Err, refl, sym, ap, subst, arith}
 use Rattle.std.proofs.lemmas.List.{drop_all, append_assoc}
 use Rattle.nt_value.specs.declared.leaf.Leaf.{Leaf}
 use Rattle.nt_diag.specs.declared.refusal.Fault.{Fault as Failure}
 use Rattle.nt_diag.specs.declared.refusal.Fault.TheVariants as fault
 use Rattle.nt_diag.specs.declared.refusal.Refusal.{Refusal}
 use Rattle.nt_ast.specs.Places.{Node}
+use Rattle.nt_value.specs.declared.place.Place.{Place}
+use Rattle.nt_ast.specs.declared.expr.Key.{Key}
+use Rattle.nt_ast.specs.declared.expr.Expr.TheOpen.{Expr-F}
+use Rattle.nt_typing.specs.Tables.{planned}
 use Rattle.nt_ast.specs.declared.expr.Expr.{Expr}
 use Rattle.nt_ast.specs.declared.expr.Expr.TheViews.{out-Expr}
 use Rattle.nt_design.specs.declared.tree.Tree.{Tree}
@@ -14,12 +18,12 @@ use Rattle.nt_kinds.specs.declared.kind.Kind.{Kind}
 use Rattle.nt_typing.specs.declared.scope.Scope.{Scope}
 use Rattle.nt_typing.specs.declared.thing.Thing.{Thing}
 use Rattle.nt_typing.specs.Typing.{Itself, itself, Several as Parts, none, more, Goes, AllGo, none_go, more_go}
-use Rattle.nt_typing.specs.Faults.{Need, leaf, known, count, goes, Asked, all_leaf, all_go}
+use Rattle.nt_typing.specs.Faults.{is_pattern, Need, leaf, known, count, goes, Asked, all_leaf, all_go}
 use Rattle.nt_typing.specs.Places.{Refuses, RefusesOne}
 use Rattle.nt_typing.proofs.Excluded.{Fit, fit_leaf, fit_constant, fit_goes}
 use Rattle.nt_typing.proofs.Least.{refuse_here, refuse_there, refuse_leaf}
-use Rattle.nt_typing.proofs.LeastTo.{refuse_base, refuse_going}
-use Rattle.nt_forms.specs.Walks.{Drafts, Lacks, Bases, Leafs, IsLeafed, Counted, Measured, Summed, Severals, Sends, AllSent, grown}
+use Rattle.nt_typing.proofs.LeastTo.{refuse_base, refuse_going, refuse_faulty, refuse_item}
+use Rattle.nt_forms.specs.Walks.{Drafts, Lacks, Bases, Leafs, IsLeafed, Counted, Measured, Summed, Severals, Sends, AllSent, SomeSent, grown}
 use Rattle.nt_forms.specs.declared.operands.Leafed.{Leafed}
 use Rattle.nt_forms.specs.declared.operands.Several.{Several}
 use Rattle.nt_forms.proofs.Asking.{alone_of}
@@ -144,3 +148,12 @@ bases_err s x r (fault.OutOfMemory o) g h = subst (λ r. Bases s x r) (sym g) tt
 pub leafs_err : (s : Scope) (x : Node) (r : Result Leafed Failure) (f : Failure) → r ≡ Err f → Drafts s x (Err f) → Leafs s x r
 leafs_err s x r (fault.Refused e) g h = subst (λ r. Leafs s x r) (sym g) (refuse_leaf x e h)
 leafs_err s x r (fault.OutOfMemory o) g h = subst (λ r. Leafs s x r) (sym g) tt
+
+pub sends_err : (s : Scope) (x : Node) (k : Kind) (r : Result Tree Failure) (f : Failure) → is_pattern x ≡ false → r ≡ Err f → Drafts s x (Err f) → Sends s x k r
+sends_err s x k r (fault.Refused e) n g h = subst (λ r. Sends s x k r) (sym g) (refuse_faulty x k e n h)
+sends_err s x k r (fault.OutOfMemory o) n g h = subst (λ r. Sends s x k r) (sym g) tt
+
+pub pattern_err : (s : Scope) (k : Kind) (at : Place) (items : List (Option Key × Expr)) (plan : List (Expr × Kind)) (r : Result Tree Failure) (f : Failure) → planned k items ≡ Some plan → r ≡ Err f → SomeSent s plan (Err f)
+    → Sends s (Expr-F.Pattern at items) k r
+pattern_err s k at items plan r (fault.Refused e) n g h = subst (λ r. Sends s (Expr-F.Pattern at items) k r) (sym g) (refuse_item k at items plan e n h)
+pattern_err s k at items plan r (fault.OutOfMemory o) n g h = subst (λ r. Sends s (Expr-F.Pattern at items) k r) (sym g) tt

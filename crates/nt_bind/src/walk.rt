@@ -262,9 +262,10 @@ fn picked(
     let mut slot = 0;
     for number in numbers {
         if let Some(own) = slot_kind(kind, slot) {
-            let (_key, item) = &items[*number];
-            let tree = sent_to(alloc, scope, item, own);
-            all = join(all, tree)?;
+            if let Some((_key, item)) = items.get(*number) {
+                let tree = sent_to(alloc, scope, item, own);
+                all = join(all, tree)?;
+            }
         }
         slot += 1;
     }
