@@ -1,7 +1,11 @@
 -- What the parts of the walk owe one another: usable things, operands of calls, slots of patterns.
 use Rattle.std.proofs.Common.{◌≡◌, ◌⊎◌, ◌<◌, ◌≤◌, ℕ, false, zero, suc, ◌+◌, ◌++◌, List, [], ◌∷◌, length, drop, get_or, map, replicate, Option, Some, None, Result, Ok, Err, refl, sym, ap, ◌∙◌, subst, arith, inl, inr, slice_get}
 use Rattle.std.specs.Prelude.{option_map}
-use Rattle.std.proofs.lemmas.List.{append_assoc}
+use Rattle.std.specs.Prelude.{All, max, min, ◌-◌}
+use Rattle.std.specs.List.{flat_map}
+use Rattle.std.proofs.lemmas.List.{append_assoc, length-append}
+use Rattle.std.proofs.lemmas.List.Elements.{All-take, All-drop}
+use Rattle.std.proofs.Math.Seq.{take-append_seam, drop-append_seam}
 use Rattle.std.proofs.lemmas.Option.{slice_get-map, slice_get_within, slice_get_read, get_or_from_slice_get}
 use Rattle.nt_value.specs.declared.place.Place.{Place}
 use Rattle.nt_diag.specs.declared.rule.Rule.{Rule}
@@ -22,7 +26,11 @@ use Rattle.nt_diag.specs.declared.rule.Rule.TheVariants as rule
 use Rattle.nt_typing.proofs.LeastTo.{refuse_unplanned}
 use Rattle.nt_const.specs.Tells.{refusal}
 use Rattle.nt_design.specs.declared.tree.Tree.{Tree}
-use Rattle.nt_kinds.specs.Kinds.{span}
+use Rattle.nt_value.specs.Digits.{IsLeaf}
+use Rattle.nt_value.specs.declared.leaf.Leaf.{Leaf}
+use Rattle.nt_kinds.specs.Kinds.{span, leaves, IsSound}
+use Rattle.nt_typing.proofs.Leaves.{struct_leaves, array_leaves}
+use Rattle.nt_patterns.proofs.Kept.{opened}
 use Rattle.nt_kinds.specs.declared.kind.Kind.{Kind}
 use Rattle.nt_kinds.specs.declared.kind.Kind.TheOpen.{Kind-F}
 use Rattle.nt_kinds.specs.declared.kind.Kind.TheViews.{out-Kind, roll-Kind, out-roll-Kind}
@@ -41,7 +49,7 @@ use Rattle.nt_typing.proofs.Excluded.{no_misses, fit_goes}
 use Rattle.nt_typing.proofs.Plans.{Kinds, more_kinds as more_sound, planned_has}
 use Rattle.nt_drafts.specs.declared.drafts.Draft.{Draft}
 use Rattle.nt_things.specs.Usable.{Few, few_members, few_elements, FewEach, more_members, IsUsable, AllUsable, more_kinds, UsableFunction, UsableScope, OnUsable}
-use Rattle.nt_things.proofs.Using.{stands_is, called_usable}
+use Rattle.nt_things.proofs.Using.{stands_is, called_usable, few_at}
 use Rattle.nt_patterns.specs.Picks.{Items, Slots, Plan, Picks, no_picks, more_picks, PicksFor}
 use Rattle.nt_forms.specs.Walks.{Bases, Drafts, Sends, SomeSent}
 use Rattle.nt_forms.proofs.Assigning.{usable_draft}
@@ -136,37 +144,10 @@ pub numbered : (o : Option Slots) (items : Items) (is : List ℕ) (plan : Plan) 
 numbered None items is plan h e = cc
 numbered (Some slots) items is plan h e = record { slots = slots; is_slots = refl; picks = subst (Picks items slots is) (some_back (sym h.is_plan ∙ e)) h.picks }
 
--- one of them, with a type of which a typed tree can be made
-few_member : (ms : List (List ℕ × Kind)) (i : ℕ) (slot : Option (List ℕ) × Kind) → FewEach ms → slice_get (map (λ m. (Some m.0, m.1)) ms) i ≡ Some slot → Few (out-Kind slot.1)
-few_member [] i slot f e = cc
-few_member (m ∷ ms) zero slot (more_members _ _ a r) e = subst (λ (p : Option (List ℕ) × Kind). Few (out-Kind p.1)) (some_back e) a
-few_member (m ∷ ms) (suc i) slot (more_members _ _ a r) e = few_member ms i slot r e
-
 one_slot : (n : ℕ) (p : Option (List ℕ) × Kind) (i : ℕ) (slot : Option (List ℕ) × Kind) → slice_get (replicate n p) i ≡ Some slot → p ≡ slot
 one_slot zero p i slot e = cc
 one_slot (suc n) p zero slot e = some_back e
 one_slot (suc n) p (suc i) slot e = one_slot n p i slot e
-
-few_slot : (y : Kind-F Kind) (slots : Slots) (i : ℕ) (slot : Option (List ℕ) × Kind) → Few y → slots_of y ≡ Some slots → slice_get slots i ≡ Some slot → Few (out-Kind slot.1)
-few_slot (Kind-F.One leaf l r) slots i slot f e g = cc
-few_slot (Kind-F.Struct at ms) slots i slot (few_members _ _ f) e g = few_member ms i slot f (ap (λ s. slice_get s i) (some_back e) ∙ g)
-few_slot (Kind-F.Array l r element) slots i slot (few_elements _ _ _ n f) e g =
-    subst (λ (p : Option (List ℕ) × Kind). Few (out-Kind p.1)) (one_slot (span l r) (None, element) i slot (ap (λ s. slice_get s i) (some_back e) ∙ g)) f
-
-head_same : {A : Type 0} {x y : A} {xs ys : List A} → x ∷ xs ≡ y ∷ ys → x ≡ y
-head_same e = cc
-
-sound_at : (i : ℕ) (plan rest : Plan) (x : Expr) (k : Kind) → drop i plan ≡ (x, k) ∷ rest → Kinds plan → IsKind k
-sound_at zero [] rest x k e h = cc
-sound_at zero (p ∷ plan) rest x k e (more_sound y j _ a r) = subst IsKind (ap (λ (p : Expr × Kind). p.1) (head_same e)) a
-sound_at (suc i) [] rest x k e h = cc
-sound_at (suc i) (p ∷ plan) rest x k e (more_sound y j _ a r) = sound_at i plan rest x k e r
-
-pub slot_usable : (k : Kind) (items : Items) (slots : Slots) (n : ℕ) (plan : Plan) (i : ℕ) (p : Slot items slots n plan i) → IsUsable k → planned k items ≡ Some plan → slots_of (out-Kind k) ≡ Some slots → IsUsable p.slot.1
-slot_usable k items slots n plan i p u e f = record {
-  sound = sound_at i plan (drop (suc i) plan) p.item.1 p.slot.1 p.rest ((planned_has k items plan e).kinds u.sound);
-  few = few_slot (out-Kind k) slots i p.slot u.few f p.slot_is;
-}
 
 -- the type of a member, of an element
 pub member_slot : (ms : List (List ℕ × Kind)) (i : ℕ) (slots : Slots) (slot : Option (List ℕ) × Kind) → map (λ m. (Some m.0, m.1)) ms ≡ slots → slice_get slots i ≡ Some slot → option_map (λ m. m.1) (slice_get ms i) ≡ Some slot.1
@@ -236,22 +217,83 @@ plan_past k items is plan i h e le = past_end i (numbered (slots_of (out-Kind k)
 -- ---- what is no pattern
 other_node : (x : Expr) (y : Node) → out-Expr x ≡ y → ((at : Place) (items : Items) → x ≡ e.Pattern at items → ⊥) → is_pattern y ≡ false
 unfolding roll-Expr roll
-other_node x (Expr-F.Literal at v) h no = refl
-other_node x (Expr-F.Read at path) h no = refl
-other_node x (Expr-F.Member at y p name) h no = refl
-other_node x (Expr-F.Item at y z) h no = refl
-other_node x (Expr-F.Part at y z w) h no = refl
-other_node x (Expr-F.Indexed at y z w up) h no = refl
-other_node x (Expr-F.Unary at op y) h no = refl
-other_node x (Expr-F.Binary at op y z) h no = refl
-other_node x (Expr-F.Choose at y z w) h no = refl
-other_node x (Expr-F.Concat at xs) h no = refl
-other_node x (Expr-F.Repeat at y xs) h no = refl
-other_node x (Expr-F.Pattern at items) h no = absurd (no at items (sym (roll-out-Expr x) ∙ ap roll-Expr h))
-other_node x (Expr-F.Call at path xs) h no = refl
-other_node x (Expr-F.Size at y) h no = refl
-other_node x (Expr-F.Time at) h no = refl
-other_node x (Expr-F.Sign at b y) h no = refl
+other_node x (Expr-F.Literal at v) h never = refl
+other_node x (Expr-F.Read at path) h never = refl
+other_node x (Expr-F.Member at y p name) h never = refl
+other_node x (Expr-F.Item at y z) h never = refl
+other_node x (Expr-F.Part at y z w) h never = refl
+other_node x (Expr-F.Indexed at y z w up) h never = refl
+other_node x (Expr-F.Unary at op y) h never = refl
+other_node x (Expr-F.Binary at op y z) h never = refl
+other_node x (Expr-F.Choose at y z w) h never = refl
+other_node x (Expr-F.Concat at xs) h never = refl
+other_node x (Expr-F.Repeat at y xs) h never = refl
+other_node x (Expr-F.Pattern at items) h never = absurd (never at items (sym (roll-out-Expr x) ∙ ap roll-Expr h))
+other_node x (Expr-F.Call at path xs) h never = refl
+other_node x (Expr-F.Size at y) h never = refl
+other_node x (Expr-F.Time at) h never = refl
+other_node x (Expr-F.Sign at b y) h never = refl
 
 pub no_pattern : (x : Expr) → ((at : Place) (items : Items) → x ≡ e.Pattern at items → ⊥) → is_pattern (out-Expr x) ≡ false
-no_pattern x no = other_node x (out-Expr x) refl no
+no_pattern x never = other_node x (out-Expr x) refl never
+
+-- ---- by numbers
+pub at_plus : {A : Type 0} (xs : List A) (i : ℕ) (x : A) → slice_get xs i ≡ Some x → drop i xs ≡ x ∷ drop (i + 1) xs
+at_plus xs i x e = opened xs i x (slice_get_within xs i x e) (sym (get_or_from_slice_get xs i x x e))
+
+pub past_index : {A : Type 0} (xs : List A) (i : ℕ) → slice_get xs i ≡ None → drop i xs ≡ []
+past_index [] zero e = refl
+past_index [] (suc i) e = refl
+past_index (x ∷ xs) zero e = cc
+past_index (x ∷ xs) (suc i) e = past_index xs i e
+
+-- ---- the types of members and elements
+all_left : (xs ys : List Leaf) → All IsLeaf (xs ++ ys) → All IsLeaf xs
+all_left xs ys h = subst (All IsLeaf) (take-append_seam xs ys) (All-take IsLeaf (length xs) (xs ++ ys) h)
+
+all_right : (xs ys : List Leaf) → All IsLeaf (xs ++ ys) → All IsLeaf ys
+all_right xs ys h = subst (All IsLeaf) (drop-append_seam xs ys) (All-drop IsLeaf (length xs) (xs ++ ys) h)
+
+sound_part : (j : Kind) (all before after : List Leaf) → all ≡ before ++ (leaves j ++ after) → length all ≤ 64 → All IsLeaf all → IsSound j
+sound_part j all before after e n v = record {
+  within =
+      let a : length all ≡ length (before ++ (leaves j ++ after)) = ap length e in
+      let b = length-append before (leaves j ++ after) in let c = length-append (leaves j) after in omega (arith, a, b, c, n);
+  valid = all_left (leaves j) after (all_right before (leaves j ++ after) (subst (All IsLeaf) e v));
+}
+
+record Split (all : List Leaf) (j : Kind) : Type 0 where
+  before : List Leaf
+  after : List Leaf
+  is : all ≡ before ++ (leaves j ++ after)
+
+member_split : (ms : List (List ℕ × Kind)) (i : ℕ) (m : List ℕ × Kind) → slice_get ms i ≡ Some m → Split (flat_map (λ m. leaves m.1) ms) m.1
+member_split [] i m e = cc
+member_split (n ∷ ms) zero m e = record { before = []; after = flat_map (λ m. leaves m.1) ms; is = ap (λ (m : List ℕ × Kind). leaves m.1 ++ flat_map (λ m. leaves m.1) ms) (some_back e) }
+member_split (n ∷ ms) (suc i) m e =
+    let r = member_split ms i m e in
+    record { before = leaves n.1 ++ r.before; after = r.after; is = ap (λ ls. leaves n.1 ++ ls) r.is ∙ sym (append_assoc (leaves n.1) r.before (leaves m.1 ++ r.after)) }
+
+few_by : (ms : List (List ℕ × Kind)) (i : ℕ) (m : List ℕ × Kind) → FewEach ms → slice_get ms i ≡ Some m → Few (out-Kind m.1)
+few_by [] i m f e = cc
+few_by (n ∷ ms) zero m (more_members _ _ a r) e = subst (λ (m : List ℕ × Kind). Few (out-Kind m.1)) (some_back e) a
+few_by (n ∷ ms) (suc i) m (more_members _ _ a r) e = few_by ms i m r e
+
+each_few : {at : Place} {ms : List (List ℕ × Kind)} → Few (Kind-F.Struct at ms) → FewEach ms
+each_few (few_members _ _ h) = h
+
+one_few : {l r : ℕ} {element : Kind} → Few (Kind-F.Array l r element) → Few (out-Kind element)
+one_few (few_elements _ _ _ n h) = h
+
+pub struct_usable : (x : Kind) (at : Place) (ms : List (List ℕ × Kind)) (i : ℕ) (m : List ℕ × Kind) → x ≡ k.Struct at ms → slice_get ms i ≡ Some m → IsUsable x → IsUsable m.1
+struct_usable x at ms i m h e u =
+    let f = seen_struct x at ms h in
+    let r = member_split ms i m e in
+    record { sound = sound_part m.1 (leaves x) r.before r.after (struct_leaves x at ms f ∙ r.is) u.sound.within u.sound.valid; few = few_by ms i m (each_few (few_at x _ f u.few)) e }
+
+pub array_usable : (x : Kind) (l r : ℕ) (e y : Kind) → x ≡ k.Array l r e → y ≡ e → IsUsable x → IsUsable y
+array_usable x l r e y h q u =
+    let f = seen_array x l r e h in
+    let n = max l r - min l r in
+    subst IsUsable (sym q)
+    (record { sound = sound_part e (leaves x) [] (flat_map (λ s. s) (replicate n (leaves e))) (array_leaves x l r e f) u.sound.within u.sound.valid; few = one_few (few_at x _ f u.few) })

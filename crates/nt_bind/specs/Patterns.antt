@@ -9,6 +9,7 @@ use Rattle.nt_design.specs.declared.tree.Tree.{Tree}
 use Rattle.nt_kinds.specs.declared.kind.Kind.{Kind}
 use Rattle.nt_drafts.specs.declared.drafts.Draft.{Draft}
 use Rattle.nt_drafts.specs.declared.drafts.Draft.TheViews.{out-Draft}
+use Rattle.nt_things.specs.Usable.{IsUsable}
 use Rattle.nt_forms.specs.Walks.{UsableDraft}
 use Rattle.nt_bind.specs.declared.gather.Gathered.{Gathered}
 
@@ -34,3 +35,8 @@ ended all = ended_by all.trees all.least
 -- the type of a member or element
 abbrev pub IsKindOf : {A : Type 0} → (A → Kind) → Option (List ℕ) × Kind → Option A → Type 0
 IsKindOf now slot o = option_map now o ≡ Some slot.1
+
+-- a type, where there is one, is one that a typed tree can tell of
+abbrev pub OnUsableKind : {A : Type 0} → (A → Kind) → Option A → Type 0
+OnUsableKind now None = Unit {0}
+OnUsableKind now (Some k) = IsUsable (now k)

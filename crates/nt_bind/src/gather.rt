@@ -1,14 +1,14 @@
 // What goes to a type, and the items of a pattern.
-ghost use Rattle.std.specs.Prelude.{◌≡◌, ℕ, false, IfOk, List, None, Option, Some, [], slice_get};
+ghost use Rattle.std.specs.Prelude.{◌≡◌, ℕ, false, IfOk, List, None, Option, Some, [], option_map, slice_get};
 ghost use Rattle.nt_ast.specs.Places.{Node, place_of};
 ghost use Rattle.nt_ast.specs.declared.expr.Expr.TheOpen.{Expr-F};
 ghost use Rattle.nt_ast.specs.declared.expr.Expr.{Expr};
 ghost use Rattle.nt_ast.specs.declared.expr.Key.{Key};
-ghost use Rattle.nt_bind.specs.Patterns.{IsKindOf, Joins, OnUsableDraft, ended};
+ghost use Rattle.nt_bind.specs.Patterns.{IsKindOf, Joins, OnUsableDraft, OnUsableKind, ended};
 ghost use Rattle.nt_forms.specs.Walks.{Drafts, Sends, SomeSent};
 ghost use Rattle.nt_kinds.specs.declared.kind.Kind.TheViews.{out-Kind};
 ghost use Rattle.nt_kinds.specs.declared.kind.Kind.{Kind as Form};
-ghost use Rattle.nt_things.specs.Usable.{IsUsable};
+ghost use Rattle.nt_things.specs.Usable.{AllUsable, IsUsable};
 ghost use Rattle.nt_typing.specs.Faults.{is_pattern};
 ghost use Rattle.nt_typing.specs.Tables.{planned, slots_of};
 ghost use Rattle.nt_typing.specs.declared.scope.Scope.{Scope};
@@ -83,7 +83,9 @@ pub(crate) fn finished(all: Gathered) -> Result<Items<Tree>, Fault>
 
 /// The type of a structure's member or of an array's element, by its number.
 pub(crate) fn slot_kind(kind: &Kind, index: usize) -> Option<&Kind>
-    ensures { (slots : List (Option (List ℕ) × Form)) (slot : Option (List ℕ) × Form) → slots_of (out-Kind kind.now) ≡ Some slots → slice_get slots index ≡ Some slot → IsKindOf (λ k. k.now) slot result }
+    requires { IsUsable kind.now }
+    ensures usable { OnUsableKind (λ k. k.now) result }
+    ensures is { (slots : List (Option (List ℕ) × Form)) (slot : Option (List ℕ) × Form) → slots_of (out-Kind kind.now) ≡ Some slots → slice_get slots index ≡ Some slot → IsKindOf (λ k. k.now) slot result }
 {
     match kind {
         Kind::One { .. } => None,
@@ -92,6 +94,18 @@ pub(crate) fn slot_kind(kind: &Kind, index: usize) -> Option<&Kind>
             Some((_name, own)) => Some(own),
         },
         Kind::Array { element, .. } => Some(element.get()),
+    }
+}
+
+/// The type of an argument, by its number.
+pub(crate) fn kind_at(kinds: &[Kind], index: usize) -> Option<&Kind>
+    requires { AllUsable kinds.now }
+    ensures usable { OnUsableKind (λ k. k.now) result }
+    ensures is { option_map (λ k. k.now) result ≡ slice_get kinds.now index }
+{
+    match kinds.get(index) {
+        None => None,
+        Some(own) => Some(own),
     }
 }
 

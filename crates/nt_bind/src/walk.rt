@@ -14,7 +14,7 @@ use crate::arms::{
     binary_arm, call_arm, choose_arm, concat_arm, indexed_arm, item_arm, literal_arm, member_arm,
     part_arm, repeat_arm, sign_arm, size_arm, unary_arm,
 };
-use crate::gather::{finished, join, nothing, pattern_arm, plain_sent, slot_kind};
+use crate::gather::{finished, join, kind_at, nothing, pattern_arm, plain_sent, slot_kind};
 use crate::needs::{based, leafed, selfed};
 use nt_ast::{Expr, Key, Path};
 use nt_design::Tree;
@@ -192,7 +192,7 @@ fn all_sent(
     let mut trees = Items::new(alloc);
     let mut index = 0;
     for arg in args {
-        match kinds.get(index) {
+        match kind_at(kinds, index) {
             None => return Ok(trees),
             Some(kind) => {
                 let tree = sent_to(alloc, scope, arg, kind)?;

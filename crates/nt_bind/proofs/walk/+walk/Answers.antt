@@ -1,6 +1,5 @@
 use Rattle.std.proofs.Common.{rules, ◌≡◌, ◌+◌, ◌++◌, [], ◌∷◌, drop, Err, refl, sym, ap, ◌∙◌, subst}
 use Rattle.std.proofs.lemmas.List.{drop_all}
-use Rattle.std.proofs.lemmas.Option.{slice_get_read}
 use Rattle.std.proofs.lemmas.Result.{err_from_is_err_and}
 use Rattle.nt_diag.specs.declared.rule.Rule.TheVariants as rule
 use Rattle.nt_ast.specs.declared.expr.Expr.TheViews.{out-Expr}
@@ -13,7 +12,7 @@ use Rattle.nt_typing.specs.Tables.{given}
 use Rattle.nt_patterns.proofs.Kept.{opened}
 use Rattle.nt_typing.proofs.Least.{refuse_wrong}
 use Rattle.nt_forms.specs.Walks.{AllSent, Bases, CountsTo, Leafs, MeasuresTo, Selves, Severals}
-use Rattle.nt_bind.proofs.Walking.{moved, at_node, bases_usable, drafts_usable, callee_usable, usable_at, given_at, given_past_args, given_past_kinds, sending_end, no_pattern, pattern_unplanned, pattern_planned, plan_past}
+use Rattle.nt_bind.proofs.Walking.{moved, at_node, bases_usable, drafts_usable, callee_usable, given_at, given_past_args, given_past_kinds, past_index, at_plus, sending_end, no_pattern, pattern_unplanned, pattern_planned, plan_past}
 use Rattle.nt_bind.proofs.Rising.{adding_err, adding_more, adding_done, sending_err, sending_more}
 use Rattle.nt_bind.proofs.Picking.{picking_end}
 use Rattle.nt_bind.proofs.walk.+walk.Goals as goal
@@ -140,13 +139,8 @@ several-returns t c = adding_done c.args.scope.now c.args.parts.now c.loop-part.
 pub all_sent-returns-in-None : goal.all_sent-returns-in-None
 all_sent-returns-in-None t c =
     let i = c.loop-arg.arg-index in
-    let e = subst (λ i. drop i c.args.kinds.now ≡ []) c.loop-arg.invariant.same (drop_all c.loop-arg.index c.args.kinds.now c.in-None.ensures.lookup.3) in
+    let e = subst (λ i. drop i c.args.kinds.now ≡ []) c.loop-arg.invariant.same (past_index c.args.kinds.now c.loop-arg.index (sym c.in-None.ensures.is)) in
     sending_end c.args.scope.now (given c.args.args.now c.args.kinds.now) i c.loop-arg.trees (given_past_kinds i c.args.args.now c.args.kinds.now e) c.loop-arg.invariant.so_far
-
-pub all_sent-sent_to-requires : goal.all_sent-sent_to-requires
-all_sent-sent_to-requires t c =
-    let at = slice_get_read c.args.kinds.now _ c.loop-arg.index c.in-Some.kind.now refl c.in-Some.ensures.lookup.3.0 c.in-Some.ensures.lookup.1 in
-    (search rules, (c.requires.scope, usable_at c.args.kinds.now c.loop-arg.index c.in-Some.kind.now c.requires.kinds at))
 
 pub all_sent-returns-in_err-tree-in-Some : goal.all_sent-returns-in_err-tree-in-Some
 all_sent-returns-in_err-tree-in-Some t c =
@@ -157,7 +151,7 @@ all_sent-returns-in_err-tree-in-Some t c =
     let i = c.loop-arg.arg-index in
     let e = given_at i c.args.args.now c.args.kinds.now c.arg-item.result k
     (opened c.args.args.now i _ c.loop-arg-test.true c.arg-item.is)
-    (subst (λ i. drop i c.args.kinds.now ≡ k ∷ drop (i + 1) c.args.kinds.now) c.loop-arg.invariant.same (opened c.args.kinds.now c.loop-arg.index k c.in-Some.ensures.lookup.3.0 c.in-Some.ensures.lookup.1)) in
+    (subst (λ i. drop i c.args.kinds.now ≡ k ∷ drop (i + 1) c.args.kinds.now) c.loop-arg.invariant.same (at_plus c.args.kinds.now c.loop-arg.index k (sym c.in-Some.ensures.is))) in
     subst (λ r. AllSent s plan r) (sym (p.1 ∙ ap (λ f. Err f) p.2))
     (sending_err s plan i c.loop-arg.trees c.arg-item.result k c.in_err-tree-in-Some.field-0.0 e c.in_err-tree-in-Some.ensures c.loop-arg.invariant.so_far)
 
@@ -168,7 +162,7 @@ all_sent-loop-arg-preserved t c =
     let i = c.loop-arg.arg-index in
     let e = given_at i c.args.args.now c.args.kinds.now c.arg-item.result k
     (opened c.args.args.now i _ c.loop-arg-test.true c.arg-item.is)
-    (subst (λ i. drop i c.args.kinds.now ≡ k ∷ drop (i + 1) c.args.kinds.now) c.loop-arg.invariant.same (opened c.args.kinds.now c.loop-arg.index k c.in-Some.ensures.lookup.3.0 c.in-Some.ensures.lookup.1)) in
+    (subst (λ i. drop i c.args.kinds.now ≡ k ∷ drop (i + 1) c.args.kinds.now) c.loop-arg.invariant.same (at_plus c.args.kinds.now c.loop-arg.index k (sym c.in-Some.ensures.is))) in
     record {
       same = ap (λ n. n + 1) c.loop-arg.invariant.same;
       so_far = sending_more c.args.scope.now plan i c.loop-arg.trees _ c.arg-item.result k c.in_ok-tree-in-Some.tree e c.in_ok-tree-in-Some.ensures
