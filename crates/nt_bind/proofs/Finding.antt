@@ -16,7 +16,7 @@ use Rattle.nt_typing.specs.declared.scope.Scope.{Scope}
 use Rattle.nt_typing.specs.declared.thing.Thing.TheVariants.{Many as many}
 use Rattle.nt_typing.specs.Typing.{Stands, itself, Binds, binds_to, binds_leaf, binds_kind}
 use Rattle.nt_typing.specs.Faults.{Unbound, unbound_to, unbound, unbound_many}
-use Rattle.nt_typing.specs.Places.{RefusesTo, RefusesBinding}
+use Rattle.nt_typing.specs.Places.{Refuses, RefusesTo, RefusesBinding}
 use Rattle.nt_typing.proofs.Excluded.{no_fault_stands}
 use Rattle.nt_typing.proofs.Least.{same}
 use Rattle.nt_drafts.specs.Drafts.{DraftOf, closed_of, whole_of, many_of, literal_of, unary_of, binary_of, choose_of, draft_leaf, draft_tree, tree_step}
@@ -25,7 +25,7 @@ use Rattle.nt_drafts.specs.declared.drafts.Draft.TheOpen.{Draft-F}
 use Rattle.nt_drafts.specs.declared.drafts.Draft.TheViews.{out-Draft}
 use Rattle.nt_drafts.specs.declared.drafts.Draft.TheFolds.{fold_out-Draft, map-Draft}
 use Rattle.nt_drafts.proofs.Become.{become}
-use Rattle.nt_forms.specs.Walks.{Sends}
+use Rattle.nt_forms.specs.Walks.{Drafts, Sends}
 use Rattle.nt_bind.specs.Binding.{BindsTo, own_context}
 
 abbrev tree_at : Draft-F Draft → Leaf → Tree
@@ -77,3 +77,12 @@ pub sent_binds : (s : Scope) (x : Node) (k : Kind) (r : Result Tree Failure) →
 sent_binds s x k (Ok a) h = binds_to h
 sent_binds s x k (Err (fault.Refused r)) h = record { is = unbound_to h.is; least = λ f i j a t q u. least_to r h f i j a t q u }
 sent_binds s x k (Err (fault.OutOfMemory e)) h = tt
+
+-- ---- a fault of the draft
+least_alone : {s : Scope} {x : Node} (r : Refusal) → Refuses s x r → (f i j : ℕ) → Placed f i j x → (t : Rule) (q : Place) → Unbound s x None t q → NoLater r (refusal t q)
+least_alone r h f i j a t q (unbound g) = h.least f i j a t q g
+least_alone r h f i j a t q (unbound_many b) = absurd (no_fault_stands h.is b)
+
+pub alone_err : (s : Scope) (x : Node) (r : Result Tree Failure) (f : Failure) → r ≡ Err f → Drafts s x (Err f) → BindsTo s x None r
+alone_err s x r (fault.Refused e) g h = subst (BindsTo s x None) (sym g) (record { is = unbound h.is; least = λ f i j a t q u. least_alone e h f i j a t q u })
+alone_err s x r (fault.OutOfMemory o) g h = subst (BindsTo s x None) (sym g) tt

@@ -1,6 +1,6 @@
 -- The items of a pattern so far: what the rest gives, the whole gives.
 use Rattle.std.proofs.Common.{◌≡◌, ◌⊎◌, ℕ, ◌+◌, ◌++◌, Bool, true, false, List, [], ◌∷◌, length, drop, Option, Some, None, Result, Ok, Err, refl, sym, ap, ◌∙◌, subst, arith, inl, inr}
-use Rattle.std.specs.Prelude.{if◌then◌else◌}
+use Rattle.std.specs.Prelude.{if◌then◌else◌, option_map, slice_get, suc}
 use Rattle.std.proofs.lemmas.List.{append_assoc}
 use Rattle.nt_value.specs.declared.place.Place.{Place}
 use Rattle.nt_diag.specs.declared.rule.Rule.{Rule}
@@ -10,11 +10,15 @@ use Rattle.nt_diag.specs.declared.refusal.Refusal.{Refusal}
 use Rattle.nt_diag.specs.Order.{NoLater, IsLeastOf, earlier, is_no_later}
 use Rattle.nt_diag.proofs.Least.{Best, best_join}
 use Rattle.nt_ast.specs.Places.{Placed}
+use Rattle.nt_ast.specs.declared.expr.Key.{Key}
 use Rattle.nt_ast.specs.declared.expr.Expr.{Expr}
 use Rattle.nt_ast.specs.declared.expr.Expr.TheViews.{out-Expr}
 use Rattle.nt_const.specs.Tells.{refusal}
 use Rattle.nt_design.specs.declared.tree.Tree.{Tree}
 use Rattle.nt_kinds.specs.declared.kind.Kind.{Kind}
+use Rattle.nt_kinds.specs.declared.kind.Kind.TheViews.{out-Kind}
+use Rattle.nt_typing.specs.Tables.{planned, slots_of}
+use Rattle.nt_patterns.specs.Picks.{Items, Slots, Plan, PicksFor}
 use Rattle.nt_typing.specs.Typing.{Goes, AllGo, none_go, more_go}
 use Rattle.nt_typing.specs.Faults.{Need, Asked, goes, Among, here, there, Misses, FaultTo, not_going, all_go}
 use Rattle.nt_typing.specs.Places.{exprs, RefusesTo, RefusesOperand, RefusesSome, Scattered, somewhere}
@@ -25,6 +29,7 @@ use Rattle.nt_typing.proofs.LeastTo.{refuse_going}
 use Rattle.nt_forms.specs.Walks.{Sends, SomeSent}
 use Rattle.nt_bind.specs.Patterns.{Joins, ended, ended_by}
 use Rattle.nt_bind.specs.declared.gather.Gathered.{Gathered}
+use Rattle.nt_bind.proofs.Walking.{Slot, numbered, picks_at}
 
 -- no later than the least fault so far, if there is one
 abbrev pub Later : Option Refusal → Refusal → Type 0
@@ -165,3 +170,28 @@ ends_by s plan i all (Some r) n e h = record {
 
 pub picking_end : (s : Scope) (plan : List (Expr × Kind)) (i : ℕ) (all : Gathered) (r : Result (List Tree) Failure) → r ≡ ended all → drop i plan ≡ [] → Picking s plan i all → SomeSent s plan r
 picking_end s plan i all r g e h = subst (SomeSent s plan) (sym g) (ends_by s plan i all all.least refl e h)
+
+-- ---- a turn over the numbers
+pub never_none : {A B : Type 0} (now : A → B) (o : Option A) (y : B) → option_map now o ≡ Some y → ((a : A) → o ≡ Some a → ⊥) → ⊥
+never_none now None y e go = cc
+never_none now (Some a) y e go = go a refl
+
+pub record Turn (s : Scope) (k : Kind) (items : Items) (plan : Plan) (i n : ℕ) : Type 0 where
+  pub slots : Slots
+  pub is_slots : slots_of (out-Kind k) ≡ Some slots
+  pub at : Slot items slots n plan i
+  pub next : drop i plan ≡ (at.item.1, at.slot.1) ∷ drop (i + 1) plan
+
+pub turn_at : (s : Scope) (k : Kind) (items : Items) (is : List ℕ) (plan : Plan) (i n : ℕ) → PicksFor (λ v. v) items (slots_of (out-Kind k)) (Some is) → planned k items ≡ Some plan → slice_get is i ≡ Some n → Turn s k items plan i n
+turn_at s k items is plan i n h e g =
+    let b = numbered (slots_of (out-Kind k)) items is plan h e in
+    let p = picks_at i n b.picks g in
+    let one : suc i ≡ i + 1 = omega arith in
+    record { slots = b.slots; is_slots = b.is_slots; at = p; next = p.rest ∙ ap (λ j. (p.item.1, p.slot.1) ∷ drop j plan) one }
+
+pub turn_picks : (s : Scope) (k own : Kind) (items : Items) (plan : Plan) (i n : ℕ) (pair : Option Key × Expr) (all next : Gathered) (r : Result Tree Failure) (t : Turn s k items plan i n)
+    → slice_get items n ≡ Some pair → Some own ≡ Some t.at.slot.1 → Sends s (out-Expr pair.1) own r → Joins all r next → Picking s plan i all → Picking s plan (i + 1) next
+turn_picks s k own items plan i n pair all next r t e f g j h =
+    let same : pair ≡ t.at.item = some_back (sym e ∙ t.at.item_is) in
+    let x = subst (λ (p : Option Key × Expr). Sends s (out-Expr p.1) own r) same g in
+    picking_more s plan i t.at.item.1 t.at.slot.1 t.next all next r (subst (λ k. Sends s (out-Expr t.at.item.1) k r) (some_back f) x) j h

@@ -1,20 +1,22 @@
-// The last step of binding: from a draft to the tree.
-ghost use Rattle.std.specs.Prelude.{◌≡◌, None, Some, false};
+// What an expression is bound to.
+ghost use Rattle.std.specs.Prelude.{◌≡◌, None, Some, false, option_map};
 ghost use Rattle.nt_ast.specs.Places.{Node, place_of};
+ghost use Rattle.nt_ast.specs.declared.expr.Expr.TheViews.{out-Expr};
 ghost use Rattle.nt_bind.specs.Binding.{BindsTo, own_context};
 ghost use Rattle.nt_drafts.specs.Drafts.{DraftOf};
 ghost use Rattle.nt_drafts.specs.declared.drafts.Draft.TheViews.{out-Draft};
-ghost use Rattle.nt_forms.specs.Walks.{UsableDraft};
-ghost use Rattle.nt_things.specs.Usable.{IsUsable};
-ghost use Rattle.nt_typing.specs.Faults.{is_pattern};
-ghost use Rattle.nt_typing.specs.declared.scope.Scope.{Scope};
+ghost use Rattle.nt_bind.specs.Patterns.{OnUsableKind};
+ghost use Rattle.nt_things.specs.Usable.{UsableScope};
+ghost use Rattle.nt_typing.specs.declared.scope.Scope.{Scope as Names};
 
+use crate::walk::{draft, sent_to};
+use nt_ast::Expr;
 use nt_const::{Size, one_bit};
 use nt_design::Tree;
 use nt_diag::{Fault, Rule};
 use nt_drafts::{Draft, close};
-use nt_forms::sent;
 use nt_kinds::Kind;
+use nt_typing::Scope;
 use nt_value::Place;
 use sqlite_items::Boxed;
 use std::alloc::Global;
@@ -34,13 +36,10 @@ fn context_of(draft: &Draft) -> Option<Size>
     }
 }
 
-/// The tree of an expression by itself, from its draft (IEEE 1800-2017, 11.6.1): in its own leaf where it is integral, else that of its structure or array.
-///
-/// # Errors
-///
-/// T8 at the expression, where it is a resolver's argument, and `OutOfMemory`.
-pub fn bind_alone(alloc: Global, draft: Boxed<Draft>, at: Place) -> Result<Boxed<Tree>, Fault>
-    ensures { (s : Scope) (x : Node) → at ≡ place_of x → DraftOf s x (out-Draft draft) → BindsTo s x None result }
+// The tree of an expression by itself, from its draft (IEEE 1800-2017, 11.6.1): in its own leaf where it is integral, else that of
+// its structure or array. T8 at the expression where it is a resolver's argument.
+fn bind_alone(alloc: Global, draft: Boxed<Draft>, at: Place) -> Result<Boxed<Tree>, Fault>
+    ensures { (s : Names) (x : Node) → at ≡ place_of x → DraftOf s x (out-Draft draft) → BindsTo s x None result }
 {
     match context_of(draft.get()) {
         None => Err(Fault::refused(Rule::T8, at)),
@@ -48,20 +47,27 @@ pub fn bind_alone(alloc: Global, draft: Boxed<Draft>, at: Place) -> Result<Boxed
     }
 }
 
-/// The tree of an expression that is no pattern as an assignment to a type, from its draft (10.7, 6.22.2).
+/// The typed tree of an expression by itself, or, with a type, as an assignment to it (IEEE 1800-2017, clause 11; 6.22.2, 10.7, 10.9).
+/// The time is that of one walk; an item of a pattern that serves several members or elements is gone through once for each.
 ///
 /// # Errors
 ///
-/// T8 at the expression, where it doesn't go to the type, and `OutOfMemory`.
-pub fn bind_sent(
+/// The least fault of the expression, by its place: T1 to T4, T8, T9, T12 or T16. `OutOfMemory`.
+pub fn bind_expr(
     alloc: Global,
-    draft: Boxed<Draft>,
-    at: Place,
-    kind: &Kind,
+    scope: &Scope,
+    expr: &Expr,
+    to: Option<&Kind>,
 ) -> Result<Boxed<Tree>, Fault>
-    requires draft { UsableDraft (out-Draft draft) }
-    requires kind { IsUsable kind.now }
-    ensures { (s : Scope) (x : Node) → is_pattern x ≡ false → at ≡ place_of x → DraftOf s x (out-Draft draft) → BindsTo s x (Some kind.now) result }
+    requires scope { UsableScope scope.now }
+    requires to { OnUsableKind (λ k. k.now) to }
+    ensures { BindsTo scope.now (out-Expr expr.now) (option_map (λ k. k.now) to) result }
 {
-    sent(alloc, draft, at, kind)
+    match to {
+        None => {
+            let draft = draft(alloc, scope, expr)?;
+            bind_alone(alloc, draft, expr.at())
+        }
+        Some(kind) => sent_to(alloc, scope, expr, kind),
+    }
 }

@@ -7,4 +7,4 @@ mod gather;
 mod needs;
 mod walk;
 
-pub use bound::{bind_alone, bind_sent};
+pub use bound::bind_expr;

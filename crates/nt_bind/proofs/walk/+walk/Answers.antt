@@ -1,4 +1,5 @@
-use Rattle.std.proofs.Common.{rules, ◌≡◌, ◌+◌, ◌++◌, [], ◌∷◌, drop, Err, refl, sym, ap, ◌∙◌, subst}
+use Rattle.std.proofs.lemmas.Option.{slice_get-get_or, slice_get_read, slice_get_within}
+use Rattle.std.proofs.Common.{rules, arith, Some, slice_get, slice_index_or, ◌≡◌, ◌+◌, ◌++◌, [], ◌∷◌, drop, Err, refl, sym, ap, ◌∙◌, subst}
 use Rattle.std.proofs.lemmas.List.{drop_all}
 use Rattle.std.proofs.lemmas.Result.{err_from_is_err_and}
 use Rattle.nt_diag.specs.declared.rule.Rule.TheVariants as rule
@@ -14,7 +15,8 @@ use Rattle.nt_typing.proofs.Least.{refuse_wrong}
 use Rattle.nt_forms.specs.Walks.{AllSent, Bases, CountsTo, Leafs, MeasuresTo, Selves, Severals}
 use Rattle.nt_bind.proofs.Walking.{moved, at_node, bases_usable, drafts_usable, callee_usable, given_at, given_past_args, given_past_kinds, past_index, at_plus, sending_end, no_pattern, pattern_unplanned, pattern_planned, plan_past}
 use Rattle.nt_bind.proofs.Rising.{adding_err, adding_more, adding_done, sending_err, sending_more}
-use Rattle.nt_bind.proofs.Picking.{picking_end}
+use Rattle.nt_bind.proofs.Picking.{Picking, picking_end, turn_at, turn_picks, never_none}
+use Rattle.nt_bind.proofs.walk.+walk.Goals.{picked-in-Some+in-Some-get+in_ok-all, picked-in-Some+in_default-get, picked-in_default}
 use Rattle.nt_bind.proofs.walk.+walk.Goals as goal
 
 pub draft-returns-in-Literal : goal.draft-returns-in-Literal
@@ -179,3 +181,29 @@ picked-returns t c = λ plan e.
     let i = c.loop-number.number-index in
     picking_end c.args.scope.now plan i c.loop-number.all c.finished.result c.finished.ensures
     (plan_past c.args.kind.now c.args.items.now c.args.numbers.now plan i c.requires.picks e c.loop-number-test.false) (c.loop-number.invariant.so_far plan e)
+
+pub picked-loop-number-preserved : goal.picked-loop-number-preserved
+picked-loop-number-preserved t c =
+    let s = c.args.scope.now in
+    let i = c.loop-number.number-index in
+    let n = slice_index_or c.args.numbers.now i 0 in
+    let at = slice_get-get_or c.args.numbers.now i 0 c.loop-number-test.true in
+    record {
+      same = ap (λ n. n + 1) c.loop-number.invariant.same;
+      so_far = λ plan e.
+          let turn = turn_at s c.args.kind.now c.args.items.now c.args.numbers.now plan i n c.requires.picks e at in
+          let slot = subst (λ j. slice_get turn.slots j ≡ Some turn.at.slot) (sym c.loop-number.invariant.same) turn.at.slot_is in
+          let own = c.slot_kind.ensures.is turn.slots turn.at.slot turn.is_slots slot in
+          elim c.match-slot_kind.branch [
+            | picked-in-Some+in-Some-get+in_ok-all w ↦
+                let pair = w.in-Some-get.field-0.now in
+                let got = slice_get_read c.args.items.now _ n pair refl w.in-Some-get.ensures.lookup.3.0 w.in-Some-get.ensures.lookup.1 in
+                subst (Picking s plan (i + 1)) (sym w.all-is)
+                (turn_picks s c.args.kind.now w.in-Some.own.now c.args.items.now plan i n pair c.loop-number.all w.in_ok-all.all w.sent_to-tree.result turn got
+                (w.in-Some.ensures.is turn.slots turn.at.slot turn.is_slots slot) w.sent_to-tree.ensures w.in_ok-all.ensures (c.loop-number.invariant.so_far plan e))
+            | picked-in-Some+in_default-get w ↦
+                let lt = slice_get_within c.args.items.now n turn.at.item turn.at.item_is in
+                let ge = w.in_default-get.ensures.lookup.3 in absurd (omega (arith, lt, ge))
+            | picked-in_default w ↦ absurd (never_none (λ k. k.now) c.slot_kind.result turn.at.slot.1 own w.in_default.not-Some)
+          ];
+    }
