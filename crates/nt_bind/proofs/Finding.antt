@@ -1,5 +1,6 @@
 -- What a draft binds its expression to.
-use Rattle.std.proofs.Common.{◌≡◌, ◌⊎◌, ℕ, Some, None, Result, Ok, Err, sym, ap, subst, inl, inr}
+use Rattle.std.specs.Prelude.{option_map}
+use Rattle.std.proofs.Common.{◌≡◌, ◌⊎◌, ℕ, Option, Some, None, Result, Ok, Err, sym, ap, subst, inl, inr}
 use Rattle.nt_value.specs.declared.leaf.Leaf.{Leaf}
 use Rattle.nt_value.specs.declared.place.Place.{Place}
 use Rattle.nt_diag.specs.declared.rule.Rule.{Rule}
@@ -86,3 +87,6 @@ least_alone r h f i j a t q (unbound_many b) = absurd (no_fault_stands h.is b)
 pub alone_err : (s : Scope) (x : Node) (r : Result Tree Failure) (f : Failure) → r ≡ Err f → Drafts s x (Err f) → BindsTo s x None r
 alone_err s x r (fault.Refused e) g h = subst (BindsTo s x None) (sym g) (record { is = unbound h.is; least = λ f i j a t q u. least_alone e h f i j a t q u })
 alone_err s x r (fault.OutOfMemory o) g h = subst (BindsTo s x None) (sym g) tt
+
+pub at_target : {A : Type 0} (now : A → Kind) (s : Scope) (x : Node) (t u : Option A) (r : Result Tree Failure) → t ≡ u → BindsTo s x (option_map now u) r → BindsTo s x (option_map now t) r
+at_target now s x t u r e h = subst (λ t. BindsTo s x (option_map now t) r) (sym e) h

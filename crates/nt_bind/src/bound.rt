@@ -1,5 +1,5 @@
 // What an expression is bound to.
-ghost use Rattle.std.specs.Prelude.{◌≡◌, None, Some, false, option_map};
+ghost use Rattle.std.specs.Prelude.{◌≡◌, None, Some, option_map};
 ghost use Rattle.nt_ast.specs.Places.{Node, place_of};
 ghost use Rattle.nt_ast.specs.declared.expr.Expr.TheViews.{out-Expr};
 ghost use Rattle.nt_bind.specs.Binding.{BindsTo, own_context};
@@ -61,7 +61,7 @@ pub fn bind_expr(
 ) -> Result<Boxed<Tree>, Fault>
     requires scope { UsableScope scope.now }
     requires to { OnUsableKind (λ k. k.now) to }
-    ensures { BindsTo scope.now (out-Expr expr.now) (option_map (λ k. k.now) to) result }
+    ensures { BindsTo scope.now (out-Expr expr.now) (option_map (λ k. k.now) to.entry) result }
 {
     match to {
         None => {
