@@ -1,5 +1,5 @@
 -- The items of a pattern so far: what the rest gives, the whole gives.
-use Rattle.std.proofs.Common.{◌≡◌, ◌⊎◌, ℕ, ◌+◌, ◌++◌, Bool, true, false, List, [], ◌∷◌, length, drop, Option, Some, None, Result, Ok, Err, refl, sym, ap, ◌∙◌, subst, arith, inl, inr}
+use Rattle.std.proofs.Common.{◌≡◌, ◌⊎◌, ℕ, ◌+◌, ◌++◌, Bool, true, false, List, [], ◌∷◌, drop, Option, Some, None, Result, Ok, Err, refl, sym, ap, ◌∙◌, subst, arith, inl, inr}
 use Rattle.std.specs.Prelude.{if◌then◌else◌, option_map, slice_get, suc}
 use Rattle.std.proofs.lemmas.List.{append_assoc}
 use Rattle.nt_value.specs.declared.place.Place.{Place}
@@ -20,8 +20,8 @@ use Rattle.nt_kinds.specs.declared.kind.Kind.TheViews.{out-Kind}
 use Rattle.nt_typing.specs.Tables.{planned, slots_of}
 use Rattle.nt_patterns.specs.Picks.{Items, Slots, Plan, PicksFor}
 use Rattle.nt_typing.specs.Typing.{Goes, AllGo, none_go, more_go}
-use Rattle.nt_typing.specs.Faults.{Need, Asked, goes, Among, here, there, Misses, FaultTo, not_going, all_go}
-use Rattle.nt_typing.specs.Places.{exprs, RefusesTo, RefusesOperand, RefusesSome, Scattered, somewhere}
+use Rattle.nt_typing.specs.Faults.{Need, Asked, goes, Among, here, there, Misses, all_go}
+use Rattle.nt_typing.specs.Places.{exprs, RefusesTo, RefusesOperand, Scattered, somewhere}
 use Rattle.nt_typing.specs.declared.scope.Scope.{Scope}
 use Rattle.nt_typing.proofs.Excluded.{no_misses, fit_goes}
 use Rattle.nt_typing.proofs.Least.{same}

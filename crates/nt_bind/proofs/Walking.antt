@@ -1,20 +1,16 @@
 -- What the parts of the walk owe one another: usable things, operands of calls, slots of patterns.
-use Rattle.std.proofs.Common.{◌≡◌, ◌⊎◌, ◌<◌, ◌≤◌, ℕ, false, zero, suc, ◌+◌, ◌++◌, List, [], ◌∷◌, length, drop, get_or, map, replicate, Option, Some, None, Result, Ok, Err, refl, sym, ap, ◌∙◌, subst, arith, inl, inr, slice_get}
+use Rattle.std.proofs.Common.{◌≡◌, ◌≤◌, ℕ, false, zero, suc, ◌+◌, ◌++◌, List, [], ◌∷◌, length, drop, map, replicate, Option, Some, None, Result, Ok, Err, refl, sym, ap, ◌∙◌, subst, arith, slice_get}
 use Rattle.std.specs.Prelude.{option_map}
 use Rattle.std.specs.Prelude.{All, max, min, ◌-◌}
 use Rattle.std.specs.List.{flat_map}
 use Rattle.std.proofs.lemmas.List.{append_assoc, length-append}
 use Rattle.std.proofs.lemmas.List.Elements.{All-take, All-drop}
 use Rattle.std.proofs.Math.Seq.{take-append_seam, drop-append_seam}
-use Rattle.std.proofs.lemmas.Option.{slice_get-map, slice_get_within, slice_get_read, get_or_from_slice_get}
+use Rattle.std.proofs.lemmas.Option.{slice_get_within, get_or_from_slice_get}
 use Rattle.nt_value.specs.declared.place.Place.{Place}
-use Rattle.nt_diag.specs.declared.rule.Rule.{Rule}
 use Rattle.nt_diag.specs.declared.refusal.Fault.{Fault as Failure}
 use Rattle.nt_diag.specs.declared.refusal.Fault.TheVariants as fault
-use Rattle.nt_diag.specs.declared.refusal.Refusal.{Refusal}
-use Rattle.nt_diag.specs.Order.{NoLater, IsLeastOf, earlier}
-use Rattle.nt_diag.proofs.Least.{Best, best_join}
-use Rattle.nt_ast.specs.Places.{Node, Placed}
+use Rattle.nt_ast.specs.Places.{Node}
 use Rattle.nt_ast.specs.Names.{path_name}
 use Rattle.nt_ast.specs.declared.path.Path.{Path}
 use Rattle.nt_ast.specs.declared.expr.Key.{Key}
@@ -36,25 +32,20 @@ use Rattle.nt_kinds.specs.declared.kind.Kind.TheOpen.{Kind-F}
 use Rattle.nt_kinds.specs.declared.kind.Kind.TheViews.{out-Kind, roll-Kind, out-roll-Kind}
 use Rattle.nt_kinds.specs.declared.kind.Kind.TheVariants as k
 use denote.Hole.Carrier.{roll}
-use Rattle.nt_typing.specs.Covers.{IsKind}
 use Rattle.nt_typing.specs.Names.{meaning_of}
 use Rattle.nt_typing.specs.Tables.{called, given, planned, plan_for, slots_of}
-use Rattle.nt_typing.specs.Typing.{Goes, AllGo, none_go, more_go}
-use Rattle.nt_typing.specs.Faults.{is_pattern, goes, Among, here, there, Misses, FaultTo, not_going, all_go}
-use Rattle.nt_typing.specs.Places.{exprs, RefusesTo, RefusesSome, Scattered, somewhere}
+use Rattle.nt_typing.specs.Typing.{AllGo, none_go}
+use Rattle.nt_typing.specs.Faults.{is_pattern}
 use Rattle.nt_typing.specs.declared.scope.Callable.{Callable}
 use Rattle.nt_typing.specs.declared.scope.Scope.{Scope}
 use Rattle.nt_typing.specs.declared.thing.Thing.{Thing}
-use Rattle.nt_typing.proofs.Excluded.{no_misses, fit_goes}
-use Rattle.nt_typing.proofs.Plans.{Kinds, more_kinds as more_sound, planned_has}
 use Rattle.nt_drafts.specs.declared.drafts.Draft.{Draft}
 use Rattle.nt_things.specs.Usable.{Few, few_members, few_elements, FewEach, more_members, IsUsable, AllUsable, more_kinds, UsableFunction, UsableScope, OnUsable}
 use Rattle.nt_things.proofs.Using.{stands_is, called_usable, few_at}
 use Rattle.nt_patterns.specs.Picks.{Items, Slots, Plan, Picks, no_picks, more_picks, PicksFor}
-use Rattle.nt_forms.specs.Walks.{Bases, Drafts, Sends, SomeSent}
+use Rattle.nt_forms.specs.Walks.{Bases, Drafts, Sends}
 use Rattle.nt_forms.proofs.Assigning.{usable_draft}
-use Rattle.nt_bind.specs.Patterns.{OnUsableDraft, Joins, ended_by}
-use Rattle.nt_bind.specs.declared.gather.Gathered.{Gathered}
+use Rattle.nt_bind.specs.Patterns.{OnUsableDraft}
 use Rattle.nt_bind.proofs.Rising.{Sending}
 
 -- ---- a node and its operands

@@ -1,10 +1,9 @@
-use Rattle.std.proofs.Common.{◌≡◌, length, Result, Ok, Err, sym, ap, ◌∙◌, subst}
+use Rattle.std.proofs.Common.{Err, sym, ap, ◌∙◌, subst}
 use Rattle.std.proofs.lemmas.Result.{err_from_is_err_and}
 use Rattle.nt_ast.specs.declared.expr.Expr.TheOpen.{Expr-F}
 use Rattle.nt_forms.specs.Walks.{AllSent}
-use Rattle.nt_typing.specs.Names.{meaning_of}
-use Rattle.nt_typing.specs.Tables.{called, given}
-use Rattle.nt_typing.specs.Faults.{all_go, asked_of}
+use Rattle.nt_typing.specs.Tables.{given}
+use Rattle.nt_typing.specs.Faults.{asked_of}
 use Rattle.nt_typing.specs.Places.{RefusesOne}
 use Rattle.nt_typing.proofs.Least.{refuse_in}
 use Rattle.nt_bind.proofs.Rising.{drafts_err, lift_sent}

@@ -1,4 +1,4 @@
-use Rattle.std.proofs.Common.{◌≡◌, Some, None, Err, ap, ◌∙◌}
+use Rattle.std.proofs.Common.{Some, None, Err, ap, ◌∙◌}
 use Rattle.std.proofs.lemmas.Result.{err_from_is_err_and}
 use Rattle.nt_ast.specs.declared.expr.Expr.TheViews.{out-Expr}
 use Rattle.nt_bind.proofs.Finding.{alone_err, sent_binds, at_target}

@@ -1,4 +1,4 @@
-use Rattle.std.proofs.Common.{◌≡◌, sym, refl}
+use Rattle.std.proofs.Common.{sym, refl}
 use Rattle.std.proofs.lemmas.Option.{slice_get_past, slice_get_read}
 use Rattle.nt_bind.proofs.Walking.{usable_at}
 use Rattle.nt_bind.proofs.gather.kind_at.Goals as goal

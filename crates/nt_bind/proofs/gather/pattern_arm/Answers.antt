@@ -1,6 +1,5 @@
 use Rattle.std.proofs.Common.{Err, ap, sym, ◌∙◌, subst}
 use Rattle.std.proofs.lemmas.Result.{err_from_is_err_and}
-use Rattle.nt_design.specs.declared.tree.Tree.TheVariants as t
 use Rattle.nt_ast.specs.declared.expr.Expr.TheOpen.{Expr-F}
 use Rattle.nt_forms.specs.Walks.{SomeSent}
 use Rattle.nt_typing.specs.Typing.{Goes, pattern}

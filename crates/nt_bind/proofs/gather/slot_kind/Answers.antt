@@ -1,4 +1,4 @@
-use Rattle.std.proofs.Common.{◌≡◌, ap, sym, refl, ◌∙◌, slice_get}
+use Rattle.std.proofs.Common.{ap, sym, refl, ◌∙◌, slice_get}
 use Rattle.std.proofs.lemmas.Option.{slice_get_past, slice_get_read}
 use Rattle.nt_bind.proofs.Walking.{struct_some, struct_none, array_some, struct_usable, array_usable}
 use Rattle.nt_bind.proofs.gather.slot_kind.Goals as goal
