@@ -1,0 +1,4 @@
+pub mod Finding
+pub mod Rising
+pub mod Walking
+pub mod Picking
