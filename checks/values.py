@@ -6,8 +6,10 @@
 A line is told in crates/nt_eval_show/README.md: an expression in prefix form, and the value that it has.
 """
 
+import concurrent.futures
 import os
 import sys
+import threading
 
 from constants import and_of, calculated, compared_digits, digits_of, extended, in_states, is_known, leaf_of, not_of, number, or_of, reduced, truth, xor_of
 
@@ -140,6 +142,15 @@ def text_of(value):
     return texts[0] if len(texts) == 1 else "{%s}" % ",".join(texts)
 
 
+def words_of(text):
+    """The words of a text: `N*WORD` is N times the word."""
+    words = []
+    for word in text.split(" "):
+        count, star, rest = word.partition("*")
+        words += [rest] * int(count) if star and count.isdigit() else [word]
+    return words
+
+
 def told(case):
     """What a case gives; it may set what cases after it read."""
     global now
@@ -147,14 +158,14 @@ def told(case):
     if sort == "time":
         now = int(text)
         return ""
-    value = value_of(text.split(" "))
+    value = value_of(words_of(text))
     if sort == "value":
         return text_of(value)
     (names if sort == "local" else elements).append(value)
     return ""
 
 
-if __name__ == "__main__":
+def compare():
     unlike = count = 0
     with open(CASES) as lines:
         for line in lines:
@@ -166,4 +177,12 @@ if __name__ == "__main__":
                 unlike += 1
                 print("%s is not %s" % (line.rstrip("\n"), told(case)))
     print("%d values, %d of them unlike" % (count, unlike))
-    sys.exit(unlike > 0)
+    return unlike > 0
+
+
+if __name__ == "__main__":
+    # some expressions are very deep
+    sys.setrecursionlimit(100000)
+    threading.stack_size(1 << 29)
+    with concurrent.futures.ThreadPoolExecutor(1) as pool:
+        sys.exit(pool.submit(compare).result())

@@ -1,36 +1,15 @@
 // Whether an expression fits an environment.
 ghost use Rattle.std.specs.Prelude.{◌≡◌, All, IfOk, IfSome, map, true};
 ghost use Rattle.nt_value.specs.Digits.{IsFilled};
-ghost use Rattle.nt_value.specs.Values.{IsValueOf, shape_of};
+ghost use Rattle.nt_value.specs.Values.{shape_of};
 ghost use Rattle.nt_eval_show.specs.Fitting.{FitsAny, IsElement};
 
 use nt_design::{Env, Tree};
 use nt_parts::shape_of;
-use nt_shapes::{Names, is_same, shape_of as tree_shape};
+use nt_shapes::{Names, are_of, is_of, shape_of as tree_shape};
 use nt_value::{Shape, Value};
 use sqlite_items::Items;
 use std::alloc::{AllocError, Global};
-
-// Whether a value is one of a shape.
-fn is_of(alloc: Global, shape: &Shape, value: &Value) -> Result<bool, AllocError>
-    ensures { IfOk result (λ b. b ≡ true → IsValueOf shape.now value.now) }
-{
-    let own = shape_of(alloc, value)?;
-    Ok(is_same(own.items(), shape.items()))
-}
-
-// Whether values are all of a shape.
-fn are_of(alloc: Global, shape: &Shape, values: &[Value]) -> Result<bool, AllocError>
-    ensures { IfOk result (λ b. b ≡ true → All (IsValueOf shape.now) values.now) }
-{
-    let [first, rest @ ..] = values else {
-        return Ok(true);
-    };
-    if !is_of(alloc, shape, first)? {
-        return Ok(false);
-    }
-    are_of(alloc, shape, rest)
-}
 
 // The shapes of values.
 fn shapes_of(alloc: Global, values: &[Value]) -> Result<Items<Shape>, AllocError>

@@ -168,12 +168,31 @@ fn read_word(alloc: Global, trees: &mut Vec<Read>, word: &str) -> Result<(), Unr
     }
 }
 
+// A word, and how often it stands: `N*WORD` is N times the word.
+fn counted(word: &str) -> (u32, &str) {
+    let Some((count, rest)) = word.split_once('*') else {
+        return (1, word);
+    };
+    match count.parse() {
+        Ok(count) => (count, rest),
+        Err(_) => (1, word),
+    }
+}
+
+fn read_words(alloc: Global, trees: &mut Vec<Read>, words: &str) -> Result<(), Unread> {
+    let (count, word) = counted(words);
+    for _i in 0..count {
+        read_word(alloc, trees, word)?;
+    }
+    Ok(())
+}
+
 /// The expression that a text is.
 pub(crate) fn tree(alloc: Global, text: &str) -> Result<Boxed<Tree>, Unread> {
     let words: Vec<&str> = text.split(' ').collect(alloc)?;
     let mut trees = Vec::new(alloc);
     for word in words.iter().rev() {
-        read_word(alloc, &mut trees, word)?;
+        read_words(alloc, &mut trees, word)?;
     }
     let tree = pop(&mut trees)?;
     if trees.is_empty() {

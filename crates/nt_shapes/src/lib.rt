@@ -4,7 +4,9 @@
 mod forms;
 mod names;
 mod shape;
+mod values;
 
 pub use forms::is_same;
 pub use names::Names;
 pub use shape::{shape_of, shapes_of};
+pub use values::{are_of, is_of};

@@ -52,18 +52,34 @@ pub fn value_of<C: Caller>(
             size,
             up,
         } => {
-            let (x, turns) = value_of(alloc, caller, world, of.get(), locals, left)?;
-            let index = value_of(alloc, caller, world, index.get(), locals, turns);
-            item_form(alloc, &x, index, *low, *size, *up)
+            item_value(
+                alloc,
+                caller,
+                world,
+                of.get(),
+                index.get(),
+                *low,
+                *size,
+                *up,
+                locals,
+                left,
+            )
         }
         Tree::Element { index } => {
             let index = value_of(alloc, caller, world, index.get(), locals, left);
             element_form(alloc, world, index)
         }
         Tree::Part { of, low, width } => {
-            let (x, turns) = value_of(alloc, caller, world, of.get(), locals, left)?;
-            let low = value_of(alloc, caller, world, low.get(), locals, turns);
-            part_form(alloc, &x, low, *width)
+            part_value(
+                alloc,
+                caller,
+                world,
+                of.get(),
+                low.get(),
+                *width,
+                locals,
+                left,
+            )
         }
         Tree::Unary { op, of } => {
             let of = value_of(alloc, caller, world, of.get(), locals, left);
@@ -105,6 +121,52 @@ pub fn value_of<C: Caller>(
         Tree::Size => Ok((int_value(alloc, world.many.len() as u32)?, left)),
         Tree::Time => Ok((time_value(alloc, world.time)?, left)),
     }
+}
+
+// An element of an array: the array, then its index (11.5.1).
+#[cycle(values)]
+fn item_value<C: Caller>(
+    alloc: Global,
+    caller: &C,
+    world: &World,
+    of: &Tree,
+    index: &Tree,
+    low: u32,
+    size: u32,
+    up: bool,
+    locals: &[Value],
+    left: u32,
+) -> Result<(Value, u32), Stop>
+    requires may { C.can_call caller.now }
+    requires typed { Typed (C.signatures caller.now) (C.calls caller.now) (world_in world.now) locals.now (view.Item of.now index.now low size up) }
+    requires few { left ≤ C.most caller.now }
+    ensures { Tells left (value_of (C.calls caller.now) (world_in world.now) (view.Item of.now index.now low size up) locals.now left) result }
+{
+    let (x, turns) = value_of(alloc, caller, world, of, locals, left)?;
+    let index = value_of(alloc, caller, world, index, locals, turns);
+    item_form(alloc, &x, index, low, size, up)
+}
+
+// A part of a leaf: the leaf, then the part's least digit (11.5.1).
+#[cycle(values)]
+fn part_value<C: Caller>(
+    alloc: Global,
+    caller: &C,
+    world: &World,
+    of: &Tree,
+    low: &Tree,
+    width: u8,
+    locals: &[Value],
+    left: u32,
+) -> Result<(Value, u32), Stop>
+    requires may { C.can_call caller.now }
+    requires typed { Typed (C.signatures caller.now) (C.calls caller.now) (world_in world.now) locals.now (view.Part of.now low.now width) }
+    requires few { left ≤ C.most caller.now }
+    ensures { Tells left (value_of (C.calls caller.now) (world_in world.now) (view.Part of.now low.now width) locals.now left) result }
+{
+    let (x, turns) = value_of(alloc, caller, world, of, locals, left)?;
+    let low = value_of(alloc, caller, world, low, locals, turns);
+    part_form(alloc, &x, low, width)
 }
 
 // An operator of two operands. The right one is evaluated only where the left one doesn't decide (11.3.5).

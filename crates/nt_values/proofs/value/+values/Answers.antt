@@ -101,61 +101,14 @@ pub value_of-returns-in-Leaves : goal.value_of-returns-in-Leaves
 value_of-returns-in-Leaves g t c =
     told_by _ _ _ _ (ap (λ t. (value_of (g.C.Caller.calls c.args.caller.now) (world_in c.args.world.now) t c.args.locals.now c.args.left)) (c.in-Leaves.is ∙ ap (λ a. view.Leaves a c.in-Leaves.first c.in-Leaves.count) (sym c.get.ensures)) ∙ value_leaves (g.C.Caller.calls c.args.caller.now) (world_in c.args.world.now) c.get.result.now c.in-Leaves.first c.in-Leaves.count c.args.locals.now c.args.left) (c.leaves_form.ensures c.args.left (value_of (g.C.Caller.calls c.args.caller.now) (world_in c.args.world.now) c.get.result.now c.args.locals.now c.args.left) c.value_of-of.ensures)
 
-pub value_of-value_of-requires : goal.value_of-value_of-requires
-value_of-value_of-requires g t c κs within =
-    let size = (ap tree_size (c.in-Item.is ∙ ap (λ a. view.Item a c.in-Item.index c.in-Item.low c.in-Item.size c.in-Item.up) (sym c.get-in-Item.ensures)) ∙ size_item c.get-in-Item.result.now c.in-Item.index c.in-Item.low c.in-Item.size c.in-Item.up) in
-    (falls_part (tree_size c.args.tree.now) (tree_size c.get-in-Item.result.now) t (omega (arith, size)) c.decreases, (search rules, (c.requires.may, ((of_item c.get-in-Item.result.now c.in-Item.index c.in-Item.low c.in-Item.size c.in-Item.up (typed_as _ _ (c.in-Item.is ∙ ap (λ a. view.Item a c.in-Item.index c.in-Item.low c.in-Item.size c.in-Item.up) (sym c.get-in-Item.ensures)) c.requires.typed)).0, c.requires.few))))
-
-pub value_of-returns-in_err-x-in-Item : goal.value_of-returns-in_err-x-in-Item
-value_of-returns-in_err-x-in-Item g t c =
-    let p = err_from_is_err_and c.from_residual-in_err-x-in-Item.result c.from_residual-in_err-x-in-Item.ensures.1 in
-    rw (p.1, p.2) (stops c.args.left c.args.left _ (value_of (g.C.Caller.calls c.args.caller.now) (world_in c.args.world.now) c.get-in-Item.result.now c.args.locals.now c.args.left) _ c.in_err-x-in-Item.field-0.0 ((ap (λ t. (value_of (g.C.Caller.calls c.args.caller.now) (world_in c.args.world.now) t c.args.locals.now c.args.left)) (c.in-Item.is ∙ ap (λ a. view.Item a c.in-Item.index c.in-Item.low c.in-Item.size c.in-Item.up) (sym c.get-in-Item.ensures)) ∙ value_item (g.C.Caller.calls c.args.caller.now) (world_in c.args.world.now) c.get-in-Item.result.now c.in-Item.index c.in-Item.low c.in-Item.size c.in-Item.up c.args.locals.now c.args.left)) c.in_err-x-in-Item.ensures)
-
 pub value_of-value_of-index-requires : goal.value_of-value_of-index-requires
 value_of-value_of-index-requires g t c κs within =
-    let size = (ap tree_size (c.in-Item.is ∙ two (λ a i. view.Item a i c.in-Item.low c.in-Item.size c.in-Item.up) (sym c.get-in-Item.ensures) (sym c.get-in-Item-2.ensures)) ∙ size_item c.get-in-Item.result.now c.get-in-Item-2.result.now c.in-Item.low c.in-Item.size c.in-Item.up) in
-    (falls_part (tree_size c.args.tree.now) (tree_size c.get-in-Item-2.result.now) t (omega (arith, size)) c.decreases, (search rules, (c.requires.may, ((of_item c.get-in-Item.result.now c.get-in-Item-2.result.now c.in-Item.low c.in-Item.size c.in-Item.up (typed_as _ _ (c.in-Item.is ∙ two (λ a i. view.Item a i c.in-Item.low c.in-Item.size c.in-Item.up) (sym c.get-in-Item.ensures) (sym c.get-in-Item-2.ensures)) c.requires.typed)).1.0, (let few = c.in_ok-x-in-Item.ensures.1 in omega (arith, few, c.requires.few))))))
-
-pub value_of-item_form-requires : goal.value_of-item_form-requires
-value_of-item_form-requires g t c =
-    (of_item c.get-in-Item.result.now c.get-in-Item-2.result.now c.in-Item.low c.in-Item.size c.in-Item.up (typed_as _ _ (c.in-Item.is ∙ two (λ a i. view.Item a i c.in-Item.low c.in-Item.size c.in-Item.up) (sym c.get-in-Item.ensures) (sym c.get-in-Item-2.ensures)) c.requires.typed)).1.1
-
-pub value_of-returns-in_ok-x-in-Item : goal.value_of-returns-in_ok-x-in-Item
-value_of-returns-in_ok-x-in-Item g t c =
-    follows c.args.left c.in_ok-x-in-Item.turns _ (value_of (g.C.Caller.calls c.args.caller.now) (world_in c.args.world.now) c.get-in-Item.result.now c.args.locals.now c.args.left) _ c.in_ok-x-in-Item.x c.item_form.result (ap (λ t. (value_of (g.C.Caller.calls c.args.caller.now) (world_in c.args.world.now) t c.args.locals.now c.args.left)) (c.in-Item.is ∙ two (λ a i. view.Item a i c.in-Item.low c.in-Item.size c.in-Item.up) (sym c.get-in-Item.ensures) (sym c.get-in-Item-2.ensures)) ∙ value_item (g.C.Caller.calls c.args.caller.now) (world_in c.args.world.now) c.get-in-Item.result.now c.get-in-Item-2.result.now c.in-Item.low c.in-Item.size c.in-Item.up c.args.locals.now c.args.left) c.in_ok-x-in-Item.ensures.0 c.in_ok-x-in-Item.ensures.1 (c.item_form.ensures c.in_ok-x-in-Item.turns (value_of (g.C.Caller.calls c.args.caller.now) (world_in c.args.world.now) c.get-in-Item-2.result.now c.args.locals.now c.in_ok-x-in-Item.turns) c.value_of-index.ensures)
-
-pub value_of-value_of-index-requires-in-Element : goal.value_of-value_of-index-requires-in-Element
-value_of-value_of-index-requires-in-Element g t c κs within =
     let size = (ap tree_size (c.in-Element.is ∙ ap view.Element (sym c.get-in-Element.ensures)) ∙ size_element c.get-in-Element.result.now) in
     (falls_part (tree_size c.args.tree.now) (tree_size c.get-in-Element.result.now) t (omega (arith, size)) c.decreases, (search rules, (c.requires.may, (of_element c.get-in-Element.result.now (typed_as _ _ (c.in-Element.is ∙ ap view.Element (sym c.get-in-Element.ensures)) c.requires.typed), c.requires.few))))
 
 pub value_of-returns-in-Element : goal.value_of-returns-in-Element
 value_of-returns-in-Element g t c =
-    told_by _ _ _ _ (ap (λ t. (value_of (g.C.Caller.calls c.args.caller.now) (world_in c.args.world.now) t c.args.locals.now c.args.left)) (c.in-Element.is ∙ ap view.Element (sym c.get-in-Element.ensures)) ∙ value_element (g.C.Caller.calls c.args.caller.now) (world_in c.args.world.now) c.get-in-Element.result.now c.args.locals.now c.args.left) (c.element_form.ensures c.args.left (value_of (g.C.Caller.calls c.args.caller.now) (world_in c.args.world.now) c.get-in-Element.result.now c.args.locals.now c.args.left) c.value_of-index-in-Element.ensures)
-
-pub value_of-value_of-requires-in-Part : goal.value_of-value_of-requires-in-Part
-value_of-value_of-requires-in-Part g t c κs within =
-    let size = (ap tree_size (c.in-Part.is ∙ ap (λ a. view.Part a c.in-Part.low c.in-Part.width) (sym c.get-in-Part.ensures)) ∙ size_part c.get-in-Part.result.now c.in-Part.low c.in-Part.width) in
-    (falls_part (tree_size c.args.tree.now) (tree_size c.get-in-Part.result.now) t (omega (arith, size)) c.decreases, (search rules, (c.requires.may, ((of_part c.get-in-Part.result.now c.in-Part.low c.in-Part.width (typed_as _ _ (c.in-Part.is ∙ ap (λ a. view.Part a c.in-Part.low c.in-Part.width) (sym c.get-in-Part.ensures)) c.requires.typed)).0, c.requires.few))))
-
-pub value_of-returns-in_err-x-in-Part : goal.value_of-returns-in_err-x-in-Part
-value_of-returns-in_err-x-in-Part g t c =
-    let p = err_from_is_err_and c.from_residual-in_err-x-in-Part.result c.from_residual-in_err-x-in-Part.ensures.1 in
-    rw (p.1, p.2) (stops c.args.left c.args.left _ (value_of (g.C.Caller.calls c.args.caller.now) (world_in c.args.world.now) c.get-in-Part.result.now c.args.locals.now c.args.left) _ c.in_err-x-in-Part.field-0.0 ((ap (λ t. (value_of (g.C.Caller.calls c.args.caller.now) (world_in c.args.world.now) t c.args.locals.now c.args.left)) (c.in-Part.is ∙ ap (λ a. view.Part a c.in-Part.low c.in-Part.width) (sym c.get-in-Part.ensures)) ∙ value_part (g.C.Caller.calls c.args.caller.now) (world_in c.args.world.now) c.get-in-Part.result.now c.in-Part.low c.in-Part.width c.args.locals.now c.args.left)) c.in_err-x-in-Part.ensures)
-
-pub value_of-value_of-low-requires : goal.value_of-value_of-low-requires
-value_of-value_of-low-requires g t c κs within =
-    let size = (ap tree_size (c.in-Part.is ∙ two (λ a i. view.Part a i c.in-Part.width) (sym c.get-in-Part.ensures) (sym c.get-in-Part-2.ensures)) ∙ size_part c.get-in-Part.result.now c.get-in-Part-2.result.now c.in-Part.width) in
-    (falls_part (tree_size c.args.tree.now) (tree_size c.get-in-Part-2.result.now) t (omega (arith, size)) c.decreases, (search rules, (c.requires.may, ((of_part c.get-in-Part.result.now c.get-in-Part-2.result.now c.in-Part.width (typed_as _ _ (c.in-Part.is ∙ two (λ a i. view.Part a i c.in-Part.width) (sym c.get-in-Part.ensures) (sym c.get-in-Part-2.ensures)) c.requires.typed)).1.0, (let few = c.in_ok-x-in-Part.ensures.1 in omega (arith, few, c.requires.few))))))
-
-pub value_of-part_form-requires : goal.value_of-part_form-requires
-value_of-part_form-requires g t c =
-    let p = (of_part c.get-in-Part.result.now c.get-in-Part-2.result.now c.in-Part.width (typed_as _ _ (c.in-Part.is ∙ two (λ a i. view.Part a i c.in-Part.width) (sym c.get-in-Part.ensures) (sym c.get-in-Part-2.ensures)) c.requires.typed)).1.1 in
-    record { some = p.0; few = p.1 }
-
-pub value_of-returns-in_ok-x-in-Part : goal.value_of-returns-in_ok-x-in-Part
-value_of-returns-in_ok-x-in-Part g t c =
-    follows c.args.left c.in_ok-x-in-Part.turns _ (value_of (g.C.Caller.calls c.args.caller.now) (world_in c.args.world.now) c.get-in-Part.result.now c.args.locals.now c.args.left) _ c.in_ok-x-in-Part.x c.part_form.result ((ap (λ t. (value_of (g.C.Caller.calls c.args.caller.now) (world_in c.args.world.now) t c.args.locals.now c.args.left)) (c.in-Part.is ∙ two (λ a i. view.Part a i c.in-Part.width) (sym c.get-in-Part.ensures) (sym c.get-in-Part-2.ensures)) ∙ value_part (g.C.Caller.calls c.args.caller.now) (world_in c.args.world.now) c.get-in-Part.result.now c.get-in-Part-2.result.now c.in-Part.width c.args.locals.now c.args.left)) c.in_ok-x-in-Part.ensures.0 c.in_ok-x-in-Part.ensures.1 (c.part_form.ensures c.in_ok-x-in-Part.turns (value_of (g.C.Caller.calls c.args.caller.now) (world_in c.args.world.now) c.get-in-Part-2.result.now c.args.locals.now c.in_ok-x-in-Part.turns) c.value_of-low.ensures)
+    told_by _ _ _ _ (ap (λ t. (value_of (g.C.Caller.calls c.args.caller.now) (world_in c.args.world.now) t c.args.locals.now c.args.left)) (c.in-Element.is ∙ ap view.Element (sym c.get-in-Element.ensures)) ∙ value_element (g.C.Caller.calls c.args.caller.now) (world_in c.args.world.now) c.get-in-Element.result.now c.args.locals.now c.args.left) (c.element_form.ensures c.args.left (value_of (g.C.Caller.calls c.args.caller.now) (world_in c.args.world.now) c.get-in-Element.result.now c.args.locals.now c.args.left) c.value_of-index.ensures)
 
 pub value_of-value_of-of-requires-in-Unary : goal.value_of-value_of-of-requires-in-Unary
 value_of-value_of-of-requires-in-Unary g t c κs within =
@@ -276,3 +229,60 @@ pub value_of-choice_value-requires : goal.value_of-choice_value-requires
 value_of-choice_value-requires g t c κs within =
     let is = c.in-Choose.is ∙ three view.Choose (sym c.get-in-Choose.ensures) (sym c.get-in-Choose-2.ensures) (sym c.get-in-Choose-3.ensures) in
     (falls_form (tree_size c.args.tree.now) (tree_size (view.Choose c.get-in-Choose.result.now c.get-in-Choose-2.result.now c.get-in-Choose-3.result.now)) t (sym (ap tree_size is)) c.decreases, (search rules, (c.requires.may, (typed_as _ _ is c.requires.typed, c.requires.few))))
+
+pub item_value-value_of-requires : goal.item_value-value_of-requires
+item_value-value_of-requires g t c κs within =
+    let size = size_item c.args.of.now c.args.index.now c.args.low c.args.size c.args.up in
+    (falls_in (tree_size (view.Item c.args.of.now c.args.index.now c.args.low c.args.size c.args.up)) (tree_size c.args.of.now) t (omega (arith, size)) c.decreases, (search rules, (c.requires.may, ((of_item c.args.of.now c.args.index.now c.args.low c.args.size c.args.up c.requires.typed).0, c.requires.few))))
+
+pub item_value-returns-in_err-x : goal.item_value-returns-in_err-x
+item_value-returns-in_err-x g t c =
+    let p = err_from_is_err_and c.from_residual.result c.from_residual.ensures.1 in
+    rw (p.1, p.2) (stops c.args.left c.args.left _ (value_of (g.C.Caller.calls c.args.caller.now) (world_in c.args.world.now) c.args.of.now c.args.locals.now c.args.left) _ c.in_err-x.field-0.0 (value_item (g.C.Caller.calls c.args.caller.now) (world_in c.args.world.now) c.args.of.now c.args.index.now c.args.low c.args.size c.args.up c.args.locals.now c.args.left) c.in_err-x.ensures)
+
+pub item_value-value_of-index-requires : goal.item_value-value_of-index-requires
+item_value-value_of-index-requires g t c κs within =
+    let size = size_item c.args.of.now c.args.index.now c.args.low c.args.size c.args.up in
+    (falls_in (tree_size (view.Item c.args.of.now c.args.index.now c.args.low c.args.size c.args.up)) (tree_size c.args.index.now) t (omega (arith, size)) c.decreases, (search rules, (c.requires.may, ((of_item c.args.of.now c.args.index.now c.args.low c.args.size c.args.up c.requires.typed).1.0, (let few = c.in_ok-x.ensures.1 in omega (arith, few, c.requires.few))))))
+
+pub item_value-item_form-requires : goal.item_value-item_form-requires
+item_value-item_form-requires g t c =
+    (of_item c.args.of.now c.args.index.now c.args.low c.args.size c.args.up c.requires.typed).1.1
+
+pub item_value-returns : goal.item_value-returns
+item_value-returns g t c =
+    follows c.args.left c.in_ok-x.turns _ (value_of (g.C.Caller.calls c.args.caller.now) (world_in c.args.world.now) c.args.of.now c.args.locals.now c.args.left) _ c.in_ok-x.x c.item_form.result (value_item (g.C.Caller.calls c.args.caller.now) (world_in c.args.world.now) c.args.of.now c.args.index.now c.args.low c.args.size c.args.up c.args.locals.now c.args.left) c.in_ok-x.ensures.0 c.in_ok-x.ensures.1 (c.item_form.ensures c.in_ok-x.turns (value_of (g.C.Caller.calls c.args.caller.now) (world_in c.args.world.now) c.args.index.now c.args.locals.now c.in_ok-x.turns) c.value_of-index.ensures)
+
+pub part_value-value_of-requires : goal.part_value-value_of-requires
+part_value-value_of-requires g t c κs within =
+    let size = size_part c.args.of.now c.args.low.now c.args.width in
+    (falls_in (tree_size (view.Part c.args.of.now c.args.low.now c.args.width)) (tree_size c.args.of.now) t (omega (arith, size)) c.decreases, (search rules, (c.requires.may, ((of_part c.args.of.now c.args.low.now c.args.width c.requires.typed).0, c.requires.few))))
+
+pub part_value-returns-in_err-x : goal.part_value-returns-in_err-x
+part_value-returns-in_err-x g t c =
+    let p = err_from_is_err_and c.from_residual.result c.from_residual.ensures.1 in
+    rw (p.1, p.2) (stops c.args.left c.args.left _ (value_of (g.C.Caller.calls c.args.caller.now) (world_in c.args.world.now) c.args.of.now c.args.locals.now c.args.left) _ c.in_err-x.field-0.0 (value_part (g.C.Caller.calls c.args.caller.now) (world_in c.args.world.now) c.args.of.now c.args.low.now c.args.width c.args.locals.now c.args.left) c.in_err-x.ensures)
+
+pub part_value-value_of-low-requires : goal.part_value-value_of-low-requires
+part_value-value_of-low-requires g t c κs within =
+    let size = size_part c.args.of.now c.args.low.now c.args.width in
+    (falls_in (tree_size (view.Part c.args.of.now c.args.low.now c.args.width)) (tree_size c.args.low.now) t (omega (arith, size)) c.decreases, (search rules, (c.requires.may, ((of_part c.args.of.now c.args.low.now c.args.width c.requires.typed).1.0, (let few = c.in_ok-x.ensures.1 in omega (arith, few, c.requires.few))))))
+
+pub part_value-part_form-requires : goal.part_value-part_form-requires
+part_value-part_form-requires g t c =
+    let p = (of_part c.args.of.now c.args.low.now c.args.width c.requires.typed).1.1 in
+    record { some = p.0; few = p.1 }
+
+pub part_value-returns : goal.part_value-returns
+part_value-returns g t c =
+    follows c.args.left c.in_ok-x.turns _ (value_of (g.C.Caller.calls c.args.caller.now) (world_in c.args.world.now) c.args.of.now c.args.locals.now c.args.left) _ c.in_ok-x.x c.part_form.result (value_part (g.C.Caller.calls c.args.caller.now) (world_in c.args.world.now) c.args.of.now c.args.low.now c.args.width c.args.locals.now c.args.left) c.in_ok-x.ensures.0 c.in_ok-x.ensures.1 (c.part_form.ensures c.in_ok-x.turns (value_of (g.C.Caller.calls c.args.caller.now) (world_in c.args.world.now) c.args.low.now c.args.locals.now c.in_ok-x.turns) c.value_of-low.ensures)
+
+pub value_of-item_value-requires : goal.value_of-item_value-requires
+value_of-item_value-requires g t c κs within =
+    let is = c.in-Item.is ∙ two (λ a i. view.Item a i c.in-Item.low c.in-Item.size c.in-Item.up) (sym c.get-in-Item.ensures) (sym c.get-in-Item-2.ensures) in
+    (falls_form (tree_size c.args.tree.now) (tree_size (view.Item c.get-in-Item.result.now c.get-in-Item-2.result.now c.in-Item.low c.in-Item.size c.in-Item.up)) t (sym (ap tree_size is)) c.decreases, (search rules, (c.requires.may, (typed_as _ _ is c.requires.typed, c.requires.few))))
+
+pub value_of-part_value-requires : goal.value_of-part_value-requires
+value_of-part_value-requires g t c κs within =
+    let is = c.in-Part.is ∙ two (λ a i. view.Part a i c.in-Part.width) (sym c.get-in-Part.ensures) (sym c.get-in-Part-2.ensures) in
+    (falls_form (tree_size c.args.tree.now) (tree_size (view.Part c.get-in-Part.result.now c.get-in-Part-2.result.now c.in-Part.width)) t (sym (ap tree_size is)) c.decreases, (search rules, (c.requires.may, (typed_as _ _ is c.requires.typed, c.requires.few))))

@@ -9,6 +9,12 @@ use Rattle.nt_values.proofs.value.+values.Given as goal
 abbrev pub decreases-value_of : goal.decreases-value_of
 decreases-value_of g l = 2 * tree_size l.tree.now + 1
 
+abbrev pub decreases-item_value : goal.decreases-item_value
+decreases-item_value g l = 2 * tree_size (view.Item l.of.now l.index.now l.low l.size l.up)
+
+abbrev pub decreases-part_value : goal.decreases-part_value
+decreases-part_value g l = 2 * tree_size (view.Part l.of.now l.low.now l.width)
+
 abbrev pub decreases-binary_value : goal.decreases-binary_value
 decreases-binary_value g l = 2 * tree_size (view.Binary l.op l.a.now l.b.now)
 

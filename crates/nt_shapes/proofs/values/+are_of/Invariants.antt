@@ -1,5 +1,5 @@
 use Rattle.std.proofs.Common.{length}
-use Rattle.nt_eval_show.proofs.fits.+are_of.Given as goal
+use Rattle.nt_shapes.proofs.values.+are_of.Given as goal
 
 abbrev pub decreases-are_of : goal.decreases-are_of
 decreases-are_of l = length l.values.now

@@ -1,0 +1,8 @@
+//! Which changes of values an event control waits for, and whether an object is one of those that are read.
+#![tactic(auto)]
+
+mod edges;
+mod objects;
+
+pub use edges::{matches, some_match};
+pub use objects::is_one_of;
