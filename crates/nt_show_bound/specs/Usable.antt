@@ -1,5 +1,5 @@
 -- Types and names of the cases, of which typed trees can be made.
-use Rattle.std.specs.Prelude.{◌≤◌, ℕ, List, length, All, Option, Some, None}
+use Rattle.std.specs.Prelude.{ℕ, List, All, Option, Some, None}
 use Rattle.nt_value.specs.Digits.{IsLeaf}
 use Rattle.nt_kinds.specs.Kinds.{leaves}
 use Rattle.nt_kinds.specs.declared.kind.Kind.{Kind}

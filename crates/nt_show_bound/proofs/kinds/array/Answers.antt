@@ -1,4 +1,4 @@
-use Rattle.std.proofs.Common.{◌≡◌, ◌<◌, sym, subst, arith}
+use Rattle.std.proofs.Common.{◌<◌, sym, subst, arith}
 use Rattle.nt_things.specs.Usable.{IsUsable}
 use Rattle.nt_show_bound.proofs.Fitted.{array_fits}
 use Rattle.nt_show_bound.proofs.kinds.array.Goals as goal

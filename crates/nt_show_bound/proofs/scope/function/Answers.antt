@@ -1,4 +1,4 @@
-use Rattle.std.proofs.Common.{◌≡◌, sym, subst}
+use Rattle.std.proofs.Common.{sym, subst}
 use Rattle.nt_things.specs.Usable.{UsableFunction}
 use Rattle.nt_show_bound.proofs.Fitted.{all_usable}
 use Rattle.nt_show_bound.proofs.scope.function.Goals as goal
