@@ -1,0 +1,3 @@
+pub mod Lookups
+pub mod Starting
+pub mod Zeds
