@@ -1,5 +1,5 @@
 -- A statement that is bound has no fault.
-use Rattle.std.proofs.Common.{◌≡◌, ℕ, ◌*◌, ◌++◌, Bool, true, false, List, [], ◌∷◌, length, map, Option, Some, None, Result, Ok, Err, refl, ap, sym, subst, arith}
+use Rattle.std.proofs.Common.{◌≡◌, ℕ, ◌++◌, Bool, true, false, List, [], ◌∷◌, map, Option, Some, None, Result, Ok, Err, refl, ap, sym, subst, arith}
 use Rattle.nt_value.specs.Digits.{LeafValue}
 use Rattle.nt_value.specs.declared.kind.Edge.{Edge}
 use Rattle.nt_value.specs.declared.leaf.Leaf.{Leaf}
@@ -7,7 +7,6 @@ use Rattle.nt_value.specs.declared.place.Place.{Place}
 use Rattle.nt_diag.specs.declared.rule.Rule.{Rule}
 use Rattle.nt_diag.specs.declared.rule.Rule.TheVariants as rule
 use Rattle.nt_ast.specs.Places.{Node}
-use Rattle.nt_ast.specs.declared.path.Path.{Path}
 use Rattle.nt_ast.specs.declared.expr.Expr.{Expr}
 use Rattle.nt_ast.specs.declared.expr.Expr.TheViews.{out-Expr}
 use Rattle.nt_ast.specs.declared.stmt.Stmt.{Stmt}
@@ -22,23 +21,22 @@ use Rattle.nt_design.specs.declared.tree.Tree.TheOpen.{Tree-F}
 use Rattle.nt_design.specs.declared.tree.Tree.TheViews.{out-Tree}
 use Rattle.nt_kinds.specs.declared.kind.Kind.{Kind}
 use Rattle.nt_typing.specs.Constants.{Constant}
-use Rattle.nt_typing.specs.Faults.{leaf, base, goes, Asked, all_leaf, all_go}
-use Rattle.nt_typing.specs.Names.{meaning_of}
-use Rattle.nt_typing.specs.Tables.{called, given}
-use Rattle.nt_typing.specs.Typing.{Stands, Alone, Itself, itself, Goes, AllGo}
+use Rattle.nt_typing.specs.Faults.{Asked, all_leaf}
+use Rattle.nt_typing.specs.Tables.{given}
+use Rattle.nt_typing.specs.Typing.{Alone, Itself, itself, Goes, AllGo}
 use Rattle.nt_typing.specs.declared.scope.Callable.{Callable}
 use Rattle.nt_typing.specs.declared.scope.Inside.{Inside}
 use Rattle.nt_typing.specs.declared.scope.Inside.TheVariants as inside
 use Rattle.nt_typing.specs.declared.scope.Scope.{Scope}
 use Rattle.nt_typing.specs.declared.thing.Thing.TheVariants.{Value as value, Many as many}
 use Rattle.nt_typing.proofs.One.{tree_of, stands_one, itself_one}
-use Rattle.nt_typing.proofs.Excluded.{Fit, fit_leaf, fit_base, fit_goes, Sound, no_more, sound, all_sound, no_among, no_misses, no_fault, no_fault_to, no_inconstant, leaf_not_none}
-use Rattle.nt_typed_stmts.specs.Lefts.{Reaches, variable, own, leaves_in, item_in, part_in, Misled, net, leaves_of, item_of, part_of, Left, left, LeftFault, faulty, array, misled}
-use Rattle.nt_typed_stmts.specs.Around.{Around, is_function, loops_of, arm_loops, past, in_loop, int_kind, declared, entered}
-use Rattle.nt_typed_stmts.specs.Tables.{Bounds, bounds_at, IsDelay, events_of, formats_of, is_taken, name_node}
+use Rattle.nt_typing.proofs.Excluded.{fit_leaf, fit_base, fit_goes, Sound, no_more, sound, all_sound, no_among, no_misses, no_fault, no_fault_to, no_inconstant, leaf_not_none}
+use Rattle.nt_typed_stmts.specs.Lefts.{Reaches, variable, own, leaves_in, item_in, part_in, Misled, leaves_of, item_of, part_of, Left, left, LeftFault, faulty, array, misled}
+use Rattle.nt_typed_stmts.specs.Around.{Around, is_function}
+use Rattle.nt_typed_stmts.specs.Tables.{IsDelay, is_taken}
 use Rattle.nt_typed_stmts.specs.Binds as b
 use Rattle.nt_typed_stmts.specs.Binds.{is_own_from, Together, together_none, together_more, AllTyped, none_typed, more_typed, AllItself, none_itself, more_itself, Events, no_events, more_events, Begins, begins_own, begins_other, Returned, nothing_returned, value_returned, BindsStatement, BindsAll, BindsArms, BindsOther, items_of}
-use Rattle.nt_typed_stmts.specs.Faults.{Ask, broken, operands, assigned, deferred, worthless, delay, event, inner, breaks, refused_by, misplaced, one_leaf, goes_to, all_inner, all_arms, maybe_inner, first_asks, call_asks, return_asks, not_so, asks, Unmet, here, there, Lacks, is_broken, operand_misses, left_faulty, right_faulty, deferred_left, deferred_own, deferred_right, worthless_faulty, worthless_value, delay_varies, delay_outside, event_faulty, event_many, event_calls, inside_faulty}
+use Rattle.nt_typed_stmts.specs.Faults.{Ask, operands, assigned, deferred, delay, event, inner, breaks, refused_by, one_leaf, goes_to, all_inner, all_arms, maybe_inner, first_asks, call_asks, return_asks, not_so, asks, Unmet, here, there, Lacks, is_broken, operand_misses, left_faulty, right_faulty, deferred_left, deferred_own, deferred_right, worthless_faulty, worthless_value, delay_varies, delay_outside, event_faulty, event_many, event_calls, inside_faulty}
 use Rattle.nt_typed_stmts.proofs.One.{left_one}
 
 -- ---- left sides
@@ -184,7 +182,7 @@ statement_met (b.repeated at x y i g) = two_met _ _ (self_met x i) (inner_met y 
 statement_met (b.for at fresh p name x y z v f i g h) = more_met _ _ (begins_met f) (more_met _ _ (self_met y i) (two_met _ _ (inner_met z g) (inner_met v h)))
 statement_met (b.forever at y g) = one_met _ (inner_met y g)
 statement_met (b.foreach at p name q index y e g) = both_met _ _ (refused_met _ p e) (one_met _ (inner_met y g))
-statement_met (b.delay at x y n u m g) = both_met _ _ (breaks_met _ rule.T15 at n) (two_met _ _ (delay_met u m) (inner_met y g))
+statement_met (b.delay at x y n u k m g) = both_met _ _ (breaks_met _ rule.T15 at n) (two_met _ _ (delay_met u m) (inner_met y g))
 statement_met (b.event at any xs y n u g) = both_met _ _ (breaks_met _ rule.T15 at n) (both_met _ _ (events_met u) (one_met _ (inner_met y g)))
 statement_met (b.wait at x y n i g) = both_met _ _ (breaks_met _ rule.T15 at n) (two_met _ _ (self_met x i) (inner_met y g))
 statement_met (b.return at x g) = return_met _ at x refl g

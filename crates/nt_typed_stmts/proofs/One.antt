@@ -1,15 +1,13 @@
 -- One left side, one leaf of a `case`, one typed statement.
-use Rattle.std.proofs.Common.{◌≡◌, ℕ, ◌*◌, Bool, true, false, List, [], ◌∷◌, length, Option, Some, None, Result, Ok, Err, refl, ap, sym, subst, ◌∙◌}
+use Rattle.std.proofs.Common.{◌≡◌, ℕ, Bool, List, ◌∷◌, Option, Some, refl, ap, sym, subst}
 use Rattle.nt_value.specs.Digits.{LeafValue}
 use Rattle.nt_value.specs.declared.kind.Edge.{Edge}
 use Rattle.nt_value.specs.declared.leaf.Leaf.{Leaf}
 use Rattle.nt_value.specs.declared.place.Place.{Place}
 use Rattle.nt_ast.specs.Places.{Node}
 use Rattle.nt_ast.specs.declared.expr.Expr.{Expr}
-use Rattle.nt_ast.specs.declared.expr.Expr.TheViews.{out-Expr}
 use Rattle.nt_ast.specs.declared.stmt.Stmt.{Stmt}
 use Rattle.nt_ast.specs.declared.stmt.Stmt.TheOpen.{Stmt-F}
-use Rattle.nt_ast.specs.declared.stmt.Stmt.TheViews.{out-Stmt}
 use Rattle.nt_const.specs.Tables.{joined}
 use Rattle.nt_const.proofs.Answered.{ap2, ap3, own_one}
 use Rattle.nt_design.specs.declared.act.Act.{Act}
@@ -21,7 +19,7 @@ use Rattle.nt_design.specs.declared.tree.Tree.TheOpen.{Tree-F}
 use Rattle.nt_design.specs.declared.tree.Tree.TheViews.{out-Tree}
 use Rattle.nt_kinds.specs.declared.kind.Kind.{Kind}
 use Rattle.nt_typing.specs.Tables.{constant_tree, given}
-use Rattle.nt_typing.specs.Typing.{Goes, AllGo}
+use Rattle.nt_typing.specs.Typing.{Goes}
 use Rattle.nt_typing.specs.declared.scope.Callable.{Callable}
 use Rattle.nt_typing.specs.declared.scope.Inside.{Inside}
 use Rattle.nt_typing.specs.declared.scope.Inside.TheVariants as inside
@@ -30,7 +28,7 @@ use Rattle.nt_typing.specs.declared.thing.Thing.{Thing}
 use Rattle.nt_typing.specs.declared.thing.Thing.TheVariants.{Value as value, Many as many}
 use Rattle.nt_typing.proofs.One.{ap4, ok_one, tree_of, stands_one, alone_one, typed_one, itself_one, goes_one, all_one, replanned}
 use Rattle.nt_typed_stmts.specs.Lefts.{into, Reaches, variable, own, leaves_in, item_in, part_in, Left, left}
-use Rattle.nt_typed_stmts.specs.Around.{Around, int_kind}
+use Rattle.nt_typed_stmts.specs.Around.{Around}
 use Rattle.nt_typed_stmts.specs.Binds.{Together, together_none, together_more, AllTyped, none_typed, more_typed, AllItself, none_itself, more_itself, Events, no_events, more_events, Begins, begins_own, begins_other, Returned, nothing_returned, value_returned, BindsStatement, null, block, assign, nonblocking, branch, choice, while, repeated, for, forever, foreach, delay, event, wait, return, break, continue, call, display, finish, BindsAll, no_statements, more_statements, BindsArms, no_arms, more_arms, BindsOther, no_other, other}
 
 pub reaches_one : {t : Tree-F Tree} {a b : Target} → Reaches t a → Reaches t b → a ≡ b
@@ -109,7 +107,7 @@ mutual
   statement_one (forever at y g) (forever _ _ h) = ap (λ b. act.Forever b at) (statement_one g h)
   statement_one (foreach {w = w} at p array q index y e g) (foreach _ _ _ _ _ _ f h) =
       ap2 (λ bounds b. act.Foreach bounds w.next b at) (ok_one refl e f) (statement_one g h)
-  statement_one (delay at x y n u m g) (delay _ _ _ o v q h) = ap2 (λ (v : LeafValue) b. act.Delay (constant_tree v) b at) (own_one u v) (statement_one g h)
+  statement_one (delay at x y n u k m g) (delay _ _ _ o v j q h) = ap2 (λ (v : LeafValue) b. act.Delay (constant_tree v) b at) (own_one u v) (statement_one g h)
   statement_one (event at any xs y n u g) (event _ _ _ _ m v h) = ap2 (λ es b. act.Event any es b at) (events_one u v) (statement_one g h)
   statement_one (wait at x y n i g) (wait _ _ _ m j h) = ap2 (λ t b. act.Wait t b at) (itself_one i j).tree (statement_one g h)
   statement_one (return at x g) (return _ _ h) = ap (λ a. act.Return a at) (returned_one g h)

@@ -1,5 +1,5 @@
 -- What stands around a statement, and the loop variables that statements declare (IEEE 1800-2017, 12.7.1, 12.7.3).
-use Rattle.std.specs.Prelude.{ℕ, suc, ◌+◌, ◌++◌, Bool, true, false, if◌then◌else◌, List, [], ◌∷◌, map, Option, Some, None}
+use Rattle.std.specs.Prelude.{ℕ, suc, ◌+◌, ◌++◌, Bool, true, false, List, [], ◌∷◌, map, Option, Some, None}
 use Rattle.nt_ast.specs.declared.expr.Expr.{Expr}
 use Rattle.nt_ast.specs.declared.stmt.Stmt.{Stmt}
 use Rattle.nt_ast.specs.declared.stmt.Stmt.TheOpen.{Stmt-F}
@@ -33,6 +33,11 @@ abbrev pub total : List ℕ → ℕ
 total [] = 0
 total (n ∷ ns) = n + total ns
 
+-- one more, where a loop declares its variable
+abbrev pub counted : Bool → ℕ → ℕ
+counted true n = suc n
+counted false n = n
+
 -- how many loop variables a statement declares
 abbrev pub loops_step : Stmt-F ℕ → ℕ
 loops_step (Stmt-F.Null at) = 0
@@ -43,7 +48,7 @@ loops_step (Stmt-F.If at x y other) = y + or_zero other
 loops_step (Stmt-F.Case at x arms other) = total (map (λ arm. arm.1) arms) + or_zero other
 loops_step (Stmt-F.While at x y) = y
 loops_step (Stmt-F.Repeat at x y) = y
-loops_step (Stmt-F.For at fresh p name x y z v) = (if fresh then 1 else 0) + (z + v)
+loops_step (Stmt-F.For at fresh p name x y z v) = counted fresh (z + v)
 loops_step (Stmt-F.Forever at y) = y
 loops_step (Stmt-F.Foreach at p array q index y) = suc y
 loops_step (Stmt-F.Delay at x y) = y

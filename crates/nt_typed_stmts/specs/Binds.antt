@@ -1,6 +1,6 @@
 -- What a statement is bound to (IEEE 1800-2017, clauses 9, 10 and 12; 13.4.1).
-use Rattle.std.specs.Prelude.{◌≡◌, ◌++◌, nat_le, replicate, ℕ, Bool, true, false, List, [], ◌∷◌, length, Option, Some, None, Result, Ok}
-use Rattle.nt_value.specs.Digits.{LeafValue}
+use Rattle.std.specs.Prelude.{◌≡◌, ◌++◌, nat_le, replicate, ℕ, Bool, true, false, List, [], ◌∷◌, length, Option, Some, None, Ok}
+use Rattle.nt_value.specs.Digits.{LeafValue, IsFilled}
 use Rattle.nt_value.specs.declared.kind.Edge.{Edge}
 use Rattle.nt_value.specs.declared.leaf.Leaf.{Leaf}
 use Rattle.nt_value.specs.declared.place.Place.{Place}
@@ -22,7 +22,7 @@ use Rattle.nt_kinds.specs.declared.kind.Kind.{Kind}
 use Rattle.nt_typing.specs.Constants.{Constant}
 use Rattle.nt_typing.specs.Names.{meaning_of}
 use Rattle.nt_typing.specs.Tables.{constant_tree, called, given}
-use Rattle.nt_typing.specs.Typing.{Alone, Typed, Itself, Several, Goes, AllGo}
+use Rattle.nt_typing.specs.Typing.{Alone, Typed, Itself, Goes, AllGo}
 use Rattle.nt_typing.specs.declared.scope.Callable.{Callable}
 use Rattle.nt_typing.specs.declared.scope.Inside.TheVariants as inside
 use Rattle.nt_typing.specs.declared.scope.Scope.{Scope}
@@ -111,7 +111,7 @@ mutual
         → BindsStatement w (Stmt-F.Foreach at p array q index y) (act.Foreach bounds w.next b at)
     -- a function has no timing control (13.4)
     delay : {w : Around} {v : LeafValue} {b : Act} (at : Place) (x : Expr) (y : Stmt)
-        → is_function w.scope.inside ≡ false → Constant w.scope (out-Expr x) v → IsDelay v → BindsStatement w (out-Stmt y) b
+        → is_function w.scope.inside ≡ false → Constant w.scope (out-Expr x) v → IsFilled v → IsDelay v → BindsStatement w (out-Stmt y) b
         → BindsStatement w (Stmt-F.Delay at x y) (act.Delay (constant_tree v) b at)
     event : {w : Around} {es : List (Edge × Tree)} {b : Act} (at : Place) (any : Bool) (xs : List (Edge × Expr)) (y : Stmt)
         → is_function w.scope.inside ≡ false → Events w.scope (events_of any xs) es → BindsStatement w (out-Stmt y) b

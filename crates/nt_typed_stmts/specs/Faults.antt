@@ -1,13 +1,11 @@
 -- The faults of a statement: what it asks of its parts, each with what the part lacks where it isn't so.
-use Rattle.std.specs.Prelude.{◌≡◌, ◌++◌, ℕ, suc, ◌+◌, Bool, true, false, List, [], ◌∷◌, map, length, Option, Some, None, Result, Ok, Err}
+use Rattle.std.specs.Prelude.{◌≡◌, ◌++◌, ℕ, Bool, true, false, List, [], ◌∷◌, map, length, Option, Some, None, Result, Ok, Err}
 use Rattle.nt_value.specs.Digits.{LeafValue}
-use Rattle.nt_value.specs.declared.kind.Edge.{Edge}
 use Rattle.nt_value.specs.declared.leaf.Leaf.{Leaf}
 use Rattle.nt_value.specs.declared.place.Place.{Place}
 use Rattle.nt_diag.specs.declared.rule.Rule.{Rule}
 use Rattle.nt_diag.specs.declared.rule.Rule.TheVariants as rule
 use Rattle.nt_ast.specs.Places.{Node, place_of}
-use Rattle.nt_ast.specs.declared.path.Path.{Path}
 use Rattle.nt_ast.specs.declared.expr.Expr.{Expr}
 use Rattle.nt_ast.specs.declared.expr.Expr.TheViews.{out-Expr}
 use Rattle.nt_ast.specs.declared.stmt.Stmt.{Stmt}
@@ -21,7 +19,7 @@ use Rattle.nt_typing.specs.Constants.{Constant, Inconstant}
 use Rattle.nt_typing.specs.Names.{meaning_of}
 use Rattle.nt_typing.specs.Tables.{thing_leaf, called, given}
 use Rattle.nt_typing.specs.Typing.{Stands, Itself, Binds}
-use Rattle.nt_typing.specs.Faults.{Need, leaf, goes, Asked, all_leaf, all_go, Fault, Among, Misses, FaultTo, Unbound}
+use Rattle.nt_typing.specs.Faults.{leaf, goes, Asked, all_leaf, all_go, Fault, Among, FaultTo, Unbound}
 use Rattle.nt_typing.specs.declared.scope.Callable.{Callable}
 use Rattle.nt_typing.specs.declared.scope.Inside.{Inside}
 use Rattle.nt_typing.specs.declared.scope.Inside.TheVariants as inside

@@ -1,10 +1,8 @@
 -- What holds of typed statements.
-use Rattle.std.specs.Prelude.{◌≡◌, true, false, List, [], All}
-use Rattle.std.specs.Bool.{beq}
+use Rattle.std.specs.Prelude.{◌≡◌, true, false, [], All}
 use Rattle.nt_value.specs.declared.place.Place.{Place}
 use Rattle.nt_diag.specs.declared.rule.Rule.{Rule}
 use Rattle.nt_ast.specs.declared.stmt.Stmt.{Stmt}
-use Rattle.nt_ast.specs.declared.stmt.Stmt.TheOpen.{Stmt-F}
 use Rattle.nt_ast.specs.declared.stmt.Stmt.TheViews.{out-Stmt}
 use Rattle.nt_design.specs.Rules.{is_slot, is_return, is_nonblocking, controls_of, jumps_of, specials_of, act_fits}
 use Rattle.nt_design.specs.Reads.{targets_of}

@@ -1,6 +1,6 @@
 -- What an assignment writes: its left side as an expression, whose tree is one of a variable or a local, of which it is the path
 -- (IEEE 1800-2017, 10.4, 11.5.1). A procedure or function writes no net (6.5).
-use Rattle.std.specs.Prelude.{◌≡◌, ℕ, Bool, List, [], ◌∷◌, ◌++◌}
+use Rattle.std.specs.Prelude.{ℕ, Bool, List, [], ◌∷◌, ◌++◌}
 use Rattle.nt_value.specs.Digits.{LeafValue}
 use Rattle.nt_value.specs.declared.leaf.Leaf.{Leaf}
 use Rattle.nt_value.specs.declared.place.Place.{Place}

@@ -15,7 +15,7 @@ use Rattle.nt_typing.specs.Faults.{Asked}
 use Rattle.nt_typing.specs.Places.{exprs}
 use Rattle.nt_typing.specs.declared.scope.Scope.{Scope}
 use Rattle.nt_typed_stmts.specs.Around.{Around}
-use Rattle.nt_typed_stmts.specs.Faults.{Ask, broken, operands, assigned, deferred, worthless, delay, event, inner, Lacks, Unmet, StatementFault}
+use Rattle.nt_typed_stmts.specs.Faults.{Ask, broken, operands, assigned, deferred, worthless, delay, event, inner, Unmet, StatementFault}
 
 -- what is asked of stands somewhere in the file
 pub data AskPlaced (f : ℕ) : Ask → Type 0 where

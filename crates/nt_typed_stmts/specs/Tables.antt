@@ -1,5 +1,5 @@
 -- Rules of statements that answer something or the number of a rule (IEEE 1800-2017, 9.4.1, 12.7.3, 21.2.1).
-use Rattle.std.specs.Prelude.{◌≡◌, ℕ, suc, ◌==◌, Bool, true, false, ◌||◌, if◌then◌else◌, List, [], ◌∷◌, ◌*◌, Option, Some, None, Result, Ok, Err}
+use Rattle.std.specs.Prelude.{◌≡◌, ℕ, suc, ◌==◌, Bool, true, false, ◌||◌, if◌then◌else◌, List, [], ◌∷◌, Option, Some, None, Result, Ok, Err}
 use Rattle.nt_value.specs.Digits.{LeafValue}
 use Rattle.nt_value.specs.declared.kind.Edge.{Edge}
 use Rattle.nt_value.specs.declared.place.Place.{Place}
