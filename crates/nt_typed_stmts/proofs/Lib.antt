@@ -1,0 +1,5 @@
+pub mod One
+pub mod Excluded
+pub mod Folded
+pub mod Behaving
+pub mod Fitting
