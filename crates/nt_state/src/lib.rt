@@ -2,11 +2,13 @@
 #![tactic(auto)]
 
 mod counts;
+mod moves;
 mod readers;
 mod starts;
 mod state;
 mod values;
 mod writers;
 
+pub use moves::advance;
 pub use starts::start;
 pub use state::State;
