@@ -12,3 +12,4 @@ mod writers;
 pub use moves::advance;
 pub use starts::start;
 pub use state::State;
+pub use values::z_value;

@@ -24,8 +24,12 @@ fn all_z(leaf: Leaf) -> Bits
     bits
 }
 
-// The value of a shape with z in each digit.
-fn z_value(alloc: Global, shape: &Shape) -> Result<Value, AllocError>
+/// The value of a shape with z in each digit, or 0 in a leaf of two states.
+///
+/// # Errors
+///
+/// Where memory is refused.
+pub fn z_value(alloc: Global, shape: &Shape) -> Result<Value, AllocError>
     ensures { IfOk result (λ value. value ≡ z_value shape.now) }
 {
     let mut leaves = Vec::new(alloc);
