@@ -1,0 +1,16 @@
+-- What a change of an object does to one procedure of a state (IEEE 1800-2017, 4.3).
+use Rattle.std.specs.Prelude.{ℕ, slice_set}
+use Rattle.nt_design.specs.declared.design.Design.{Design}
+use Rattle.nt_design.specs.declared.object.Object.{Object}
+use Rattle.nt_semantics.specs.State.{MachineState, standing_at, work_at}
+use Rattle.nt_semantics.specs.Wake.{Waking, standing_after, waking_at, work_after}
+
+-- it stands where the change leads, and has that to do
+abbrev pub led : ℕ → Waking → MachineState → MachineState
+led p w s = record s {
+  standings = slice_set s.standings p (standing_after (standing_at s p) w);
+  work = slice_set s.work p (work_after (work_at s p) w);
+}
+
+abbrev pub woken_at : Design → Object → ℕ → MachineState → MachineState
+woken_at d o p s = led p (waking_at d o s p) s

@@ -1,0 +1,7 @@
+//! A change of an object in a state: what it wakes.
+#![tactic(auto)]
+
+mod assigns;
+mod procs;
+
+pub use procs::wake_proc;
