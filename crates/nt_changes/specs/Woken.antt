@@ -1,8 +1,8 @@
 -- What a change of an object does to one procedure of a state (IEEE 1800-2017, 4.3).
-use Rattle.std.specs.Prelude.{ℕ, slice_set}
+use Rattle.std.specs.Prelude.{ℕ, length, slice_set}
 use Rattle.nt_design.specs.declared.design.Design.{Design}
 use Rattle.nt_design.specs.declared.object.Object.{Object}
-use Rattle.nt_semantics.specs.State.{MachineState, standing_at, work_at}
+use Rattle.nt_semantics.specs.State.{MachineState, each_below, standing_at, work_at}
 use Rattle.nt_semantics.specs.Wake.{Waking, standing_after, waking_at, work_after}
 
 -- it stands where the change leads, and has that to do
@@ -14,3 +14,10 @@ led p w s = record s {
 
 abbrev pub woken_at : Design → Object → ℕ → MachineState → MachineState
 woken_at d o p s = led p (waking_at d o s p) s
+
+-- it does this to each procedure
+abbrev pub procs_woken : Design → Object → MachineState → MachineState
+procs_woken d o s = record s {
+  standings = each_below (length s.standings) (λ p. standing_after (standing_at s p) (waking_at d o s p));
+  work = each_below (length s.work) (λ p. work_after (work_at s p) (waking_at d o s p));
+}

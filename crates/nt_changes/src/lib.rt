@@ -4,4 +4,4 @@
 mod assigns;
 mod procs;
 
-pub use procs::wake_proc;
+pub use procs::{wake_proc, wake_procs};

@@ -2,11 +2,12 @@
 ghost use Rattle.std.specs.Prelude.{◌≡◌, ◌<◌, ◌∷◌, IfOk, List, OnOk, length, map};
 ghost use Rattle.nt_design.specs.WellFormed.{IsDesign, signature_of};
 ghost use Rattle.nt_semantics.specs.State.{locals_at, work_at, world_of_state};
+ghost use Rattle.nt_semantics.specs.StateFits.{IsStateOf};
 ghost use Rattle.nt_semantics.specs.Wake.{functions_of, waking_at};
 ghost use Rattle.nt_semantics.specs.declared.work.Work.{Work as WorkValue};
 ghost use Rattle.nt_wake.specs.Typed.{HeadTyped};
 ghost use Rattle.nt_wake.specs.Wakings.{waking_in, waking_with};
-ghost use Rattle.nt_changes.specs.Woken.{led, woken_at};
+ghost use Rattle.nt_changes.specs.Woken.{led, procs_woken, woken_at};
 
 use nt_design::{Design, Object};
 use nt_eval::EventCalls;
@@ -96,4 +97,27 @@ pub fn wake_proc(
     }
     let waking = waking_in_state(alloc, design, state, object, proc)?;
     lead(state, proc, waking)
+}
+
+/// What a change of an object does to the procedures (IEEE 1800-2017, 4.3): each that waits for it is ready, or keeps new
+/// values.
+///
+/// # Errors
+///
+/// Where memory is refused. The state is used no more then.
+pub fn wake_procs(
+    alloc: Global,
+    design: &Design,
+    state: &mut State,
+    object: Object,
+) -> Result<(), AllocError>
+    requires design { IsDesign design.now }
+    requires state { IsStateOf design.now state.old }
+    ensures { OnOk result (state.new ≡ procs_woken design.now object state.old) }
+{
+    let count = state.standings().len() as u32;
+    for proc in 0..count {
+        wake_proc(alloc, design, state, object, proc)?;
+    }
+    Ok(())
 }
