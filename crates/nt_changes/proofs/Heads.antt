@@ -1,17 +1,14 @@
 -- In a state of its design, what a procedure waits with has the shapes that its places ask for.
-use Rattle.std.proofs.Common.{◌≡◌, ℕ, suc, zero, ◌<◌, ◌≤◌, List, [], ◌∷◌, map, length, refl, ap, sym, subst, ◌∙◌, arith}
-use Rattle.std.specs.Prelude.{All, Bool, true, false, ◌&&◌, ◌==◌, Option, Some, None, get_or, option_map, slice_get}
+use Rattle.std.proofs.Common.{◌≡◌, ℕ, suc, zero, List, [], ◌∷◌, map, length, refl, ap, subst, ◌∙◌, arith}
+use Rattle.std.specs.Prelude.{All, true, false, ◌==◌, Some, None, get_or, slice_get}
 use Rattle.std.specs.List.{list_all}
 use Rattle.std.proofs.lemmas.Bool.{and_parts, false≢true}
 use Rattle.std.proofs.lemmas.List.Elements.{All-head}
-use Rattle.std.proofs.lemmas.Option.{get_or_from_slice_get}
 use Rattle.nt_value.specs.Digits.{IsFilled}
-use Rattle.nt_value.specs.Values.{AreValuesOf, shape_of}
+use Rattle.nt_value.specs.Values.{shape_of}
 use Rattle.nt_value.specs.declared.leaf.Leaf.{Leaf}
-use Rattle.nt_value.specs.declared.kind.Edge.{Edge}
 use Rattle.nt_design.proofs.Filled.{all_at}
 use Rattle.nt_design.proofs.Results.{outside_fits}
-use Rattle.nt_design.specs.Expressions.{World}
 use Rattle.nt_design.specs.Meaning.{most_turns}
 use Rattle.nt_design.specs.Parts.{Value}
 use Rattle.nt_design.specs.Reads.{calls_of, event_trees}

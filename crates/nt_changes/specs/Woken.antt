@@ -2,8 +2,8 @@
 use Rattle.std.specs.Prelude.{ℕ, length, slice_set}
 use Rattle.nt_design.specs.declared.design.Design.{Design}
 use Rattle.nt_design.specs.declared.object.Object.{Object}
-use Rattle.nt_semantics.specs.State.{MachineState, each_below, standing_at, work_at}
-use Rattle.nt_semantics.specs.Wake.{Waking, standing_after, waking_at, work_after}
+use Rattle.nt_semantics.specs.State.{MachineState, count_at, each_below, standing_at, work_at}
+use Rattle.nt_semantics.specs.Wake.{Waking, one_more_if, reads_at, standing_after, waking_at, work_after}
 
 -- it stands where the change leads, and has that to do
 abbrev pub led : ℕ → Waking → MachineState → MachineState
@@ -20,4 +20,10 @@ abbrev pub procs_woken : Design → Object → MachineState → MachineState
 procs_woken d o s = record s {
   standings = each_below (length s.standings) (λ p. standing_after (standing_at s p) (waking_at d o s p));
   work = each_below (length s.work) (λ p. work_after (work_at s p) (waking_at d o s p));
+}
+
+-- and each assignment that reads the object is to be evaluated once more
+abbrev pub assigns_woken : Design → Object → MachineState → MachineState
+assigns_woken d o s = record s {
+  evaluations = each_below (length s.evaluations) (λ a. one_more_if (reads_at d o a) (count_at s.evaluations a));
 }

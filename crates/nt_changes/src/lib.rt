@@ -3,5 +3,7 @@
 
 mod assigns;
 mod procs;
+mod waking;
 
 pub use procs::{wake_proc, wake_procs};
+pub use waking::wake;
