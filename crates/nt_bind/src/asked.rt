@@ -68,12 +68,7 @@ pub fn bind_self(alloc: Global, scope: &Scope, expr: &Expr) -> Result<Selfed, Fa
 /// # Errors
 ///
 /// Its least fault, and `OutOfMemory`.
-pub fn bind_to(
-    alloc: Global,
-    scope: &Scope,
-    expr: &Expr,
-    kind: &Kind,
-) -> Result<Boxed<Tree>, Fault>
+pub fn bind_to(alloc: Global, scope: &Scope, expr: &Expr, kind: &Kind) -> Result<Boxed<Tree>, Fault>
     requires scope { UsableScope scope.now }
     requires kind { IsUsable kind.now }
     ensures { Sends scope.now (out-Expr expr.now) kind.now result }

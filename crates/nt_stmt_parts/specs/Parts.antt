@@ -1,5 +1,5 @@
 -- What is answered of the parts of a statement.
-use Rattle.std.specs.Prelude.{◌≡◌, ℕ, false, List, [], ◌∷◌, Result, Ok, Err}
+use Rattle.std.specs.Prelude.{◌≡◌, ℕ, false, [], ◌∷◌, Result, Ok, Err}
 use Rattle.nt_value.specs.Digits.{IsFilled, LeafValue}
 use Rattle.nt_value.specs.declared.leaf.Leaf.{Leaf}
 use Rattle.nt_value.specs.declared.place.Place.{Place}
@@ -28,7 +28,7 @@ use Rattle.nt_typed_stmts.specs.Lefts as lefts
 use Rattle.nt_typed_stmts.specs.Lefts.{Reaches, Misled, LeftFault}
 use Rattle.nt_typed_stmts.specs.Tables.{IsDelay}
 use Rattle.nt_typed_stmts.specs.Binds.{is_own_from}
-use Rattle.nt_typed_stmts.specs.Faults.{Ask, assigned, deferred, delay, event}
+use Rattle.nt_typed_stmts.specs.Faults.{assigned, deferred, delay, event}
 use Rattle.nt_stmt_parts.specs.declared.lefts.Left.{Left}
 use Rattle.nt_stmt_parts.specs.declared.assigned.Assigned.{Assigned}
 use Rattle.nt_stmt_parts.specs.Together.{Answers}

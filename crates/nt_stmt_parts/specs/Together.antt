@@ -1,5 +1,5 @@
 -- Parts that each may have a fault, together: the least fault is told.
-use Rattle.std.specs.Prelude.{ℕ, ◌*◌, Bool, true, false, if◌then◌else◌, List, Result, Ok, Err}
+use Rattle.std.specs.Prelude.{Bool, true, false, if◌then◌else◌, List, Result, Ok, Err}
 use Rattle.nt_value.specs.declared.place.Place.{Place}
 use Rattle.nt_diag.specs.declared.refusal.Fault.{Fault as Failure}
 use Rattle.nt_diag.specs.declared.refusal.Fault.TheVariants as fault

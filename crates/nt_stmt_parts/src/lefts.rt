@@ -2,6 +2,7 @@
 ghost use Rattle.std.specs.Prelude.{◌≡◌, IfOk};
 ghost use Rattle.nt_ast.specs.Places.{Node, place_of};
 ghost use Rattle.nt_ast.specs.declared.expr.Expr.TheViews.{out-Expr};
+ghost use Rattle.nt_design.specs.declared.tree.Tree.TheOpen.{Tree-F};
 ghost use Rattle.nt_design.specs.declared.tree.Tree.TheViews.{out-Tree};
 ghost use Rattle.nt_forms.specs.Walks.{fault_at};
 ghost use Rattle.nt_stmt_parts.specs.Parts.{Leads, Lefts, OnUsableLeft};
@@ -59,18 +60,27 @@ fn step_into(target: Target, pick: Pick) -> Result<Target, AllocError>
     }
 }
 
-// Where a tree leads that is one of a variable or a local and a path into it: T10 where it is one of a net, T8 else.
-fn reached(alloc: Global, tree: Boxed<Tree>) -> Result<Target, Unfit>
-    ensures { Leads (out-Tree tree) result }
+// A variable as a target.
+fn variable_of(alloc: Global, object: Object) -> Result<Target, Unfit>
+    ensures { Leads (Tree-F.Read object) result }
 {
-    match tree.into_inner() {
-        Tree::Read(Object::Net(_)) => Err(Unfit::Breaks(Rule::T10)),
-        Tree::Read(Object::Var(var)) => {
+    match object {
+        Object::Net(_) => Err(Unfit::Breaks(Rule::T10)),
+        Object::Var(var) => {
             Ok(Target::Var {
                 var,
                 path: Items::new(alloc),
             })
         }
+    }
+}
+
+// Where a tree leads that is one of a variable or a local and a path into it: T10 where it is one of a net, T8 else.
+fn reached(alloc: Global, tree: Boxed<Tree>) -> Result<Target, Unfit>
+    ensures { Leads (out-Tree tree) result }
+{
+    match tree.into_inner() {
+        Tree::Read(object) => variable_of(alloc, object),
         Tree::Local(local) => {
             Ok(Target::Local {
                 local,
