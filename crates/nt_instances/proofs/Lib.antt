@@ -1,0 +1,4 @@
+pub mod Numbering
+pub mod Walking
+pub mod Depth
+pub mod Faulting
