@@ -5,8 +5,10 @@ mod assigned;
 mod delays;
 mod joined;
 mod lefts;
+mod texts;
 
 pub use assigned::{Assigned, assigned_to, deferred_to};
 pub use delays::delay_of;
 pub use joined::{both, with_rule};
 pub use lefts::{Left, left_side, name_side};
+pub use texts::takes;
