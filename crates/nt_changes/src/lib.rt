@@ -4,6 +4,8 @@
 mod assigns;
 mod procs;
 mod waking;
+mod writes;
 
 pub use procs::{wake_proc, wake_procs};
 pub use waking::wake;
+pub use writes::{put_var, set_net};
