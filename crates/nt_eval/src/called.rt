@@ -1,10 +1,11 @@
 // Calls of a design's functions.
 ghost use Rattle.std.specs.Prelude.{◌≤◌, map};
-ghost use Rattle.nt_design.specs.Meaning.{calls_to};
+ghost use Rattle.nt_design.specs.Meaning.{calls_to, most_turns};
 ghost use Rattle.nt_design.specs.WellFormed.{signature_of};
 ghost use Rattle.nt_values.specs.Tells.{Tells};
 ghost use Rattle.nt_eval.specs.Callable.{MayRun, Nests, OfDesign};
 
+use crate::evaluate::MOST_TURNS;
 use crate::run::run;
 use nt_design::{Function, Stop};
 use nt_value::Value;
@@ -72,4 +73,30 @@ pub(crate) fn call_within(
         args,
         left - 1,
     )
+}
+
+/// The functions of a well-formed design, which make the calls of an event: within its turns.
+#[derive(Clone, Copy)]
+pub struct EventCalls<'a> {
+    pub functions: &'a [Function],
+}
+
+impl<'a> Caller for EventCalls<'a> {
+    ghost can_call = { λ s. OfDesign s.functions.now };
+
+    ghost signatures = { λ s. map signature_of s.functions.now };
+
+    ghost calls = { λ s. calls_to s.functions.now most_turns };
+
+    ghost most = { λ s. most_turns };
+
+    fn call(
+        &self,
+        alloc: Global,
+        function: u32,
+        args: Items<Value>,
+        left: u32,
+    ) -> Result<(Value, u32), Stop> {
+        call_within(alloc, self.functions, MOST_TURNS, function, args, left)
+    }
 }

@@ -17,8 +17,8 @@ use nt_values::{World, value_of};
 use sqlite_items::Items;
 use std::alloc::{AllocError, Global};
 
-// The turns of an event, this project's limit.
-const MOST_TURNS: u32 = 65_536;
+/// The turns of an event, this project's limit.
+pub const MOST_TURNS: u32 = 65_536;
 
 // The leaves of the first of some values.
 fn first_shape(alloc: Global, values: &[Value]) -> Result<Shape, AllocError>

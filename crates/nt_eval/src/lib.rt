@@ -5,4 +5,5 @@ mod called;
 mod evaluate;
 mod run;
 
-pub use evaluate::{call, meaning};
+pub use called::EventCalls;
+pub use evaluate::{MOST_TURNS, call, meaning};

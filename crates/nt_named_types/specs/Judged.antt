@@ -1,5 +1,6 @@
 -- The types that scopes declare, in their order (IEEE 1800-2017, 6.18): each by those that stand before it.
 use Rattle.std.specs.Prelude.{◌≡◌, List, [], ◌∷◌, ◌++◌, slice_get, Option, Some, None}
+use Rattle.nt_value.specs.declared.place.Place.{Place}
 use Rattle.nt_diag.specs.declared.refusal.Refusal.{Refusal}
 use Rattle.nt_ast.specs.declared.path.Path.{Path}
 use Rattle.nt_ast.specs.declared.types.TypeTree.{TypeTree}
@@ -35,6 +36,8 @@ pub data IsJudged (s : UnitScopes) (known : Known) (table : List TypeSeen) : Wha
   a_type : {of : TypeTree} {dims : List Dim} {x : Kind} → IsDeclared (seen_at s known) (types_at s table) of dims x → IsJudged s known table (what.Type of dims) (seen.Known x)
   a_fault : {of : TypeTree} {dims : List Dim} {r : Refusal} → RefusesDeclared (seen_at s known) (types_at s table) of dims r → IsJudged s known table (what.Type of dims) (seen.Faulty r)
   a_constant : (path : Path) → IsJudged s known table (what.Constant path) seen.Other
+  a_function : (at : Place) → IsJudged s known table (what.Function at) seen.Other
+  a_nettype : (at : Place) → IsJudged s known table (what.Nettype at) seen.Other
   an_other : IsJudged s known table what.Other seen.Other
 
 -- one declaration more

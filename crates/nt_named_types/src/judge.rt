@@ -35,6 +35,8 @@ pub(crate) fn judged(
             }
         }
         What::Constant(_path) => Ok(TypeSeen::Other),
+        What::Function(_at) => Ok(TypeSeen::Other),
+        What::Nettype(_at) => Ok(TypeSeen::Other),
         What::Other => Ok(TypeSeen::Other),
     }
 }

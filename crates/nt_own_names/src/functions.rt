@@ -36,7 +36,12 @@ fn add_locals(
     Ok(())
 }
 
-fn names_of(alloc: Global, item: &FunctionItem) -> Result<Items<Named>, AllocError>
+/// What a function declares itself, in this order: its name, its arguments, its locals (IEEE 1800-2017, 13.4).
+///
+/// # Errors
+///
+/// `AllocError` alone.
+pub fn names_of(alloc: Global, item: &FunctionItem) -> Result<Items<Named>, AllocError>
     ensures { IfOk result (λ all. all ≡ function_names item.now) }
 {
     let mut all = Items::new(alloc);

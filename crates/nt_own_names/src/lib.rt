@@ -6,7 +6,7 @@ mod modules;
 mod named;
 mod types;
 
-pub use functions::function_twice;
+pub use functions::{function_twice, names_of};
 pub use modules::module_twice;
 pub use named::{Named, twice};
 pub use types::type_twice;

@@ -3,6 +3,8 @@
 
 mod edges;
 mod objects;
+mod reads;
 
 pub use edges::{matches, some_match};
 pub use objects::is_one_of;
+pub use reads::{act_reads, event_reads, tree_reads};

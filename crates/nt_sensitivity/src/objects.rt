@@ -4,7 +4,7 @@ ghost use Rattle.nt_semantics.specs.Same.{is_one_of, is_same_object};
 
 use nt_design::Object;
 
-fn is_same_object(a: Object, b: Object) -> bool
+pub(crate) fn is_same_object(a: Object, b: Object) -> bool
     ensures { result ≡ is_same_object a b }
 {
     match (a, b) {

@@ -29,7 +29,7 @@ held_at : (names : List (List ℕ × Entry)) (at : Place) (name : List ℕ) (o :
 held_at names at name None e = λ t d. held_none e t d
 held_at names at name (Some e) p = held_entry names at name e p
 
-held_is : (names : List (List ℕ × Entry)) (at : Place) (name : List ℕ) → IsFound (Declares names at name) (held_in names at name)
+pub held_is : (names : List (List ℕ × Entry)) (at : Place) (name : List ℕ) → IsFound (Declares names at name) (held_in names at name)
 held_is names at name = held_at names at name (lookup (bytes_eq name) names) refl
 
 -- ---- imports

@@ -72,6 +72,8 @@ abbrev pub seen_what : Known → Option What → Seen
 seen_what known None = seen.Unknown
 seen_what known (Some (what.Constant path)) = names_in known path
 seen_what known (Some (what.Type of dims)) = seen.Other
+seen_what known (Some (what.Function at)) = seen.Other
+seen_what known (Some (what.Nettype at)) = seen.Other
 seen_what known (Some what.Other) = seen.Other
 
 abbrev pub seen_look : UnitScopes → Known → Look → Seen

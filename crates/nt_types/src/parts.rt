@@ -23,6 +23,10 @@ pub enum What {
     },
     /// A constant, by the path under which its value is known.
     Constant(Path),
+    /// A function, by the place of its declaration (13.4).
+    Function(Place),
+    /// A nettype, by the place of its declaration (6.6.7).
+    Nettype(Place),
     /// Something else.
     Other,
 }
@@ -54,6 +58,32 @@ fn add_other(
 {
     let name = name.copy(alloc)?;
     add(scope, all, name, from, What::Other)
+}
+
+fn add_function(
+    alloc: Global,
+    scope: &mut Scope,
+    all: &mut Items<What>,
+    name: &Name,
+    at: Place,
+) -> Result<(), AllocError>
+    ensures { OnOk result (Adds scope.old scope.new all.old all.new (record { name = name.now; from = None; what = whats.Function at } ∷ [])) }
+{
+    let name = name.copy(alloc)?;
+    add(scope, all, name, None, What::Function(at))
+}
+
+fn add_nettype(
+    alloc: Global,
+    scope: &mut Scope,
+    all: &mut Items<What>,
+    name: &Name,
+    at: Place,
+) -> Result<(), AllocError>
+    ensures { OnOk result (Adds scope.old scope.new all.old all.new (record { name = name.now; from = Some at; what = whats.Nettype at } ∷ [])) }
+{
+    let name = name.copy(alloc)?;
+    add(scope, all, name, Some(at), What::Nettype(at))
 }
 
 fn copy_dims(alloc: Global, dims: &Items<Dimension>) -> Result<Items<Dimension>, AllocError>
@@ -144,8 +174,8 @@ pub(crate) fn add_item(
         Item::Module { name, .. } => add_other(alloc, scope, all, name, None),
         Item::Import { .. } => Ok(()),
         Item::Typedef { kind, what, .. } => add_type(alloc, scope, all, kind.get(), what.get()),
-        Item::Nettype(item) => add_other(alloc, scope, all, &item.name, Some(item.at)),
-        Item::Function(item) => add_other(alloc, scope, all, &item.name, None),
+        Item::Nettype(item) => add_nettype(alloc, scope, all, &item.name, item.at),
+        Item::Function(item) => add_function(alloc, scope, all, &item.name, item.at),
         Item::Param { what, .. } => add_param(alloc, scope, all, prefix, what.get()),
         Item::Net { what, .. } => add_object(alloc, scope, all, what.get()),
         Item::Var { what, .. } => add_object(alloc, scope, all, what.get()),

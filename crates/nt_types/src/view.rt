@@ -26,6 +26,8 @@ impl<'a> View<'a> {
             None => Ok(Seen::Unknown),
             Some(What::Constant(path)) => self.known.look(alloc, path),
             Some(What::Type { .. }) => Ok(Seen::Other),
+            Some(What::Function(_)) => Ok(Seen::Other),
+            Some(What::Nettype(_)) => Ok(Seen::Other),
             Some(What::Other) => Ok(Seen::Other),
         }
     }

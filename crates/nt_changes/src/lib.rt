@@ -1,0 +1,9 @@
+//! A change of an object in a state: what it wakes.
+#![tactic(auto)]
+
+mod assigns;
+mod procs;
+mod waking;
+
+pub use procs::{wake_proc, wake_procs};
+pub use waking::wake;

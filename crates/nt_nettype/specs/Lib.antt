@@ -1,0 +1,3 @@
+pub mod Resolvers
+pub mod Nettypes
+pub mod Laws

@@ -1,0 +1,4 @@
+pub mod Advancing
+pub mod Lookups
+pub mod Starting
+pub mod Zeds

@@ -1,0 +1,4 @@
+pub mod Folding
+pub mod Rooting
+pub mod Stating
+mod Chaining
