@@ -40,13 +40,13 @@ use Rattle.nt_typing.proofs.Excluded.{no_fault_to, no_inconstant}
 use Rattle.nt_typing.proofs.Least.{same, refuse_wrong}
 use Rattle.nt_typing.proofs.LeastTo.{refuse_base}
 use Rattle.nt_typed_stmts.specs.Lefts as l
-use Rattle.nt_typed_stmts.specs.Tables.{alone, name_node, IsDelay}
+use Rattle.nt_typed_stmts.specs.Tables.{alone, Bounds, bounds_at, bounds_of, name_node, IsDelay}
 use Rattle.nt_typed_stmts.specs.Binds.{is_own_from}
-use Rattle.nt_typed_stmts.specs.Faults.{assigned, deferred, delay, Unmet, here, there, left_faulty, right_faulty, deferred_left, deferred_own, deferred_right, delay_varies, delay_outside}
-use Rattle.nt_typed_stmts.specs.Places.{AsksPlaced, assigned_in, deferred_in, delay_in, more_asks}
+use Rattle.nt_typed_stmts.specs.Faults.{assigned, deferred, delay, Unmet, here, there, left_faulty, right_faulty, deferred_left, broken, is_broken, refused_by, deferred_own, deferred_right, delay_varies, delay_outside}
+use Rattle.nt_typed_stmts.specs.Places.{RefusesAsks, AsksPlaced, assigned_in, deferred_in, delay_in, more_asks}
 use Rattle.nt_typed_stmts.proofs.Excluded.{no_left_fault}
 use Rattle.nt_typed_stmts.proofs.One.{left_one}
-use Rattle.nt_stmt_parts.specs.Parts.{Leads, Lefts, RefusesLeft, IsAssigned, AssignedTo, DeferredTo, Delays}
+use Rattle.nt_stmt_parts.specs.Parts.{BoundsAt, Leads, Lefts, RefusesLeft, IsAssigned, AssignedTo, DeferredTo, Delays}
 use Rattle.nt_stmt_parts.specs.Together.{ruled}
 use Rattle.nt_stmt_parts.specs.declared.lefts.Left.{Left}
 use Rattle.nt_stmt_parts.specs.declared.assigned.Assigned.{Assigned}
@@ -207,3 +207,26 @@ least_outside s x v u t q (there _ _ w) = absurd (nothing_there w)
 pub outside_told : (s : Scope) (x : Expr) (v : LeafValue) (at : Place) (f : Failure) → Constant s (out-Expr x) v → (IsDelay v → ⊥) → f ≡ fault.Refused (refusal rule.T3 at) → at ≡ place_of (out-Expr x) → Delays s x (Err f)
 outside_told s x v at f u m e p =
     subst (λ f. Delays s x (Err f)) (sym (e ∙ ap (λ at. fault.Refused (refusal rule.T3 at)) p)) (record { is = here _ _ (delay_outside u m); least = λ f p t q w. least_outside s x v u t q w })
+
+-- ---- over what a `foreach` counts
+least_broken : (r : Rule) (at : Place) (t : Rule) (q : Place) → Unmet (broken r at ∷ []) t q → NoLater (refusal r at) (refusal t q)
+least_broken r at t q (here _ _ (is_broken _ _)) = same r at
+least_broken r at t q (there _ _ w) = absurd (nothing_there w)
+
+pub refuse_broken : (o : Result Bounds Rule) (r : Rule) (at : Place) → o ≡ Err r → RefusesAsks (refused_by o at) (refusal r at)
+refuse_broken o r at e =
+    subst (λ o. RefusesAsks (refused_by o at) (refusal r at)) (sym e) (record { is = here _ _ (is_broken r at); least = λ f p t q w. least_broken r at t q w })
+
+unnamed_bounds_by : (s : Scope) (at : Place) (name : List ℕ) (u : Unfit) → Gives (thing_of (meaning_of s (alone at name))) (Err u) → BoundsAt s at name (Err (fault_at u at))
+unnamed_bounds_by s at name (Breaks r) g = refuse_broken (bounds_at s at name) r at (ap bounds_of g)
+unnamed_bounds_by s at name (OutOfMemory e) g = tt
+
+pub unnamed_bounds : (s : Scope) (at : Place) (name own : List ℕ) (u : Unfit) (f : Failure) → own ≡ name → Gives (thing_of (meaning_of s (alone at own))) (Err u) → f ≡ fault_at u at → BoundsAt s at name (Err f)
+unnamed_bounds s at name own u f e g h =
+    subst (λ f. BoundsAt s at name (Err f)) (sym h) (unnamed_bounds_by s at name u (subst (λ n. Gives (thing_of (meaning_of s (alone at n))) (Err u)) e g))
+
+pub bounds_are : (s : Scope) (at : Place) (name own : List ℕ) (h : Thing) (o : Result Bounds Rule) → own ≡ name → thing_of (meaning_of s (alone at own)) ≡ Ok h → o ≡ bounds_of (Ok h) → bounds_at s at name ≡ o
+bounds_are s at name own h o e g i = ap bounds_of (subst (λ n. thing_of (meaning_of s (alone at n)) ≡ Ok h) e g) ∙ sym i
+
+pub no_bounds_told : (s : Scope) (at : Place) (name : List ℕ) (r : Rule) (f : Failure) → bounds_at s at name ≡ Err r → f ≡ fault.Refused (refusal r at) → BoundsAt s at name (Err f)
+no_bounds_told s at name r f e g = subst (λ f. BoundsAt s at name (Err f)) (sym g) (refuse_broken (bounds_at s at name) r at e)

@@ -1,5 +1,5 @@
 -- What is answered of the parts of a statement.
-use Rattle.std.specs.Prelude.{◌≡◌, ℕ, false, [], ◌∷◌, Result, Ok, Err}
+use Rattle.std.specs.Prelude.{◌≡◌, ℕ, false, List, [], ◌∷◌, Result, Ok, Err}
 use Rattle.nt_value.specs.Digits.{IsFilled, LeafValue}
 use Rattle.nt_value.specs.declared.leaf.Leaf.{Leaf}
 use Rattle.nt_value.specs.declared.place.Place.{Place}
@@ -26,9 +26,10 @@ use Rattle.nt_typing.specs.Typing.{Goes, Itself}
 use Rattle.nt_typing.specs.declared.scope.Scope.{Scope}
 use Rattle.nt_typed_stmts.specs.Lefts as lefts
 use Rattle.nt_typed_stmts.specs.Lefts.{Reaches, Misled, LeftFault}
-use Rattle.nt_typed_stmts.specs.Tables.{IsDelay}
+use Rattle.nt_typed_stmts.specs.Tables.{Bounds, bounds_at, IsDelay}
 use Rattle.nt_typed_stmts.specs.Binds.{is_own_from}
-use Rattle.nt_typed_stmts.specs.Faults.{assigned, deferred, delay, event}
+use Rattle.nt_typed_stmts.specs.Faults.{assigned, deferred, delay, event, refused_by}
+use Rattle.nt_typed_stmts.specs.Places.{RefusesAsks}
 use Rattle.nt_stmt_parts.specs.declared.lefts.Left.{Left}
 use Rattle.nt_stmt_parts.specs.declared.assigned.Assigned.{Assigned}
 use Rattle.nt_stmt_parts.specs.Together.{Answers}
@@ -90,3 +91,9 @@ pub record IsEvent (s : Scope) (x : Expr) (a : Tree) : Type 0 where
 
 abbrev pub EventOf : Scope → Expr → Result Tree Failure → Type 0
 EventOf s x r = Answers (IsEvent s x) (event s x ∷ []) r
+
+-- over what a `foreach` counts
+abbrev pub BoundsAt : Scope → Place → List ℕ → Result Bounds Failure → Type 0
+BoundsAt s at name (Ok b) = bounds_at s at name ≡ Ok b
+BoundsAt s at name (Err (fault.Refused r)) = RefusesAsks (refused_by (bounds_at s at name) at) r
+BoundsAt s at name (Err (fault.OutOfMemory e)) = Unit {0}
