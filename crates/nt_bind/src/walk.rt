@@ -121,7 +121,7 @@ pub(crate) fn draft(alloc: Global, scope: &Scope, expr: &Expr) -> Result<Boxed<D
 
 // What is selected from.
 #[cycle(walk)]
-fn base(alloc: Global, scope: &Scope, expr: &Expr) -> Result<Thing, Fault>
+pub(crate) fn base(alloc: Global, scope: &Scope, expr: &Expr) -> Result<Thing, Fault>
     requires { UsableScope scope.now }
     ensures { Bases scope.now (out-Expr expr.now) result }
 {
@@ -130,7 +130,7 @@ fn base(alloc: Global, scope: &Scope, expr: &Expr) -> Result<Thing, Fault>
 
 // An integral operand before its context is known.
 #[cycle(walk)]
-fn integral(alloc: Global, scope: &Scope, expr: &Expr) -> Result<Leafed, Fault>
+pub(crate) fn integral(alloc: Global, scope: &Scope, expr: &Expr) -> Result<Leafed, Fault>
     requires { UsableScope scope.now }
     ensures { Leafs scope.now (out-Expr expr.now) result }
 {
@@ -139,7 +139,7 @@ fn integral(alloc: Global, scope: &Scope, expr: &Expr) -> Result<Leafed, Fault>
 
 // An integral operand in its own leaf.
 #[cycle(walk)]
-fn own(alloc: Global, scope: &Scope, expr: &Expr) -> Result<Selfed, Fault>
+pub(crate) fn own(alloc: Global, scope: &Scope, expr: &Expr) -> Result<Selfed, Fault>
     requires { UsableScope scope.now }
     ensures { Selves scope.now (out-Expr expr.now) result }
 {
@@ -179,7 +179,7 @@ fn called(
 
 // The operands of a call as assignments to the types of its arguments.
 #[cycle(walk)]
-fn all_sent(
+pub(crate) fn all_sent(
     alloc: Global,
     scope: &Scope,
     args: &[Expr],

@@ -1,0 +1,4 @@
+pub mod Leading
+pub mod Leasts
+pub mod Telling
+pub mod Counting
