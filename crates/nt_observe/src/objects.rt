@@ -1,29 +1,12 @@
 // The variables and nets that a trace shows.
 ghost use Rattle.std.specs.Prelude.{◌≡◌, IfOk, OnOk};
-ghost use Rattle.nt_semantics.specs.Same.{is_one_of, is_same_object};
 ghost use Rattle.nt_semantics.specs.Texts.{objects_of as shown_in};
 ghost use Rattle.nt_observe.specs.Shown.{with_maybe};
 
 use nt_design::{Design, Object};
+use nt_sensitivity::is_one_of;
 use sqlite_items::Items;
 use std::alloc::{AllocError, Global};
-
-fn is_same_object(a: Object, b: Object) -> bool
-    ensures { result ≡ is_same_object a b }
-{
-    match (a, b) {
-        (Object::Net(a), Object::Net(b)) => a == b,
-        (Object::Var(a), Object::Var(b)) => a == b,
-        (Object::Net(_), Object::Var(_)) => false,
-        (Object::Var(_), Object::Net(_)) => false,
-    }
-}
-
-fn is_one_of(objects: &[Object], object: Object) -> bool
-    ensures { result ≡ is_one_of objects.now object }
-{
-    objects.iter().any(|other| is_same_object(object, *other))
-}
 
 // One object more, where it is a new one.
 fn add(all: &mut Items<Object>, object: Option<Object>) -> Result<(), AllocError>
